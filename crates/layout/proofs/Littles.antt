@@ -44,5 +44,17 @@ little-four n =
     let three = further n 65536 256 16777216 refl ∙ ap (λ (k : ℕ). k / 256) two in
     cc
 
+pub little-eight : (n : ℕ)
+    → n % 256 ∷ n / 256 % 256 ∷ n / 65536 % 256 ∷ n / 16777216 % 256
+    ∷ n / 4294967296 % 256 ∷ n / 1099511627776 % 256 ∷ n / 281474976710656 % 256 ∷ n / 72057594037927936 % 256 ∷ [] ≡ little 8 n
+little-eight n =
+    let two = further n 256 256 65536 refl in
+    let three = further n 65536 256 16777216 refl ∙ ap (λ (k : ℕ). k / 256) two in
+    let four = further n 16777216 256 4294967296 refl ∙ ap (λ (k : ℕ). k / 256) three in
+    let five = further n 4294967296 256 1099511627776 refl ∙ ap (λ (k : ℕ). k / 256) four in
+    let six = further n 1099511627776 256 281474976710656 refl ∙ ap (λ (k : ℕ). k / 256) five in
+    let seven = further n 281474976710656 256 72057594037927936 refl ∙ ap (λ (k : ℕ). k / 256) six in
+    cc
+
 pub number-four : (a b c d : ℕ) → a + b * 256 + c * 65536 + d * 16777216 ≡ number (a ∷ b ∷ c ∷ d ∷ [])
 number-four a b c d = omega arith

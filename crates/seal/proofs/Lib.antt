@@ -1,2 +1,3 @@
+pub mod Combined
 pub mod Openings
 pub mod Schemed

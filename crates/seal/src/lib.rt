@@ -3,3 +3,4 @@ pub mod bench;
 pub mod fault;
 mod scheme;
 pub mod seal;
+pub mod street;

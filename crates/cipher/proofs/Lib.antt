@@ -1,0 +1,3 @@
+pub mod Zips
+pub mod Words
+pub mod Sizes

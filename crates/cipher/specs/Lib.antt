@@ -1,0 +1,3 @@
+pub mod Chacha20
+pub mod Siphash
+pub mod Known

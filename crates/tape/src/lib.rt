@@ -1,0 +1,4 @@
+//! Tapes: where the random words come from. One trait with its meaning, and the kinds of tape.
+pub mod fault;
+pub mod tape;
+pub mod words;
