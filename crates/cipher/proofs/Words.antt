@@ -32,7 +32,7 @@ number-at-four bs i =
 
 pub number-at-eight : (bs : Bytes) (i : ℕ)
     → getD bs i 0 + getD bs (i + 1) 0 * 256 + getD bs (i + 2) 0 * 65536 + getD bs (i + 3) 0 * 16777216
-        + getD bs (i + 4) 0 * 4294967296 + getD bs (i + 5) 0 * 1099511627776 + getD bs (i + 6) 0 * 281474976710656 + getD bs (i + 7) 0 * 72057594037927936
+    + getD bs (i + 4) 0 * 4294967296 + getD bs (i + 5) 0 * 1099511627776 + getD bs (i + 6) 0 * 281474976710656 + getD bs (i + 7) 0 * 72057594037927936
     ≡ number (take 8 (drop i bs))
 number-at-eight bs i =
     let four = number-at-four bs (i + 4) in
@@ -49,7 +49,7 @@ number-at-eight bs i =
 -- where fewer than eight bytes are left from i on, seven places say all of them
 pub number-past : (bs : Bytes) (i : ℕ) → length bs ≤ i + 7
     → getD bs i 0 + getD bs (i + 1) 0 * 256 + getD bs (i + 2) 0 * 65536 + getD bs (i + 3) 0 * 16777216
-        + getD bs (i + 4) 0 * 4294967296 + getD bs (i + 5) 0 * 1099511627776 + getD bs (i + 6) 0 * 281474976710656
+    + getD bs (i + 4) 0 * 4294967296 + getD bs (i + 5) 0 * 1099511627776 + getD bs (i + 6) 0 * 281474976710656
     ≡ number (drop i bs)
 number-past bs i h =
     let eight = number-at-eight bs i in

@@ -4,13 +4,11 @@ ghost use Rattle.cipher.specs.Known.{ChaCha20-known, SipHash-known};
 
 fn chacha20_answer_stands()
     ensures { λ _. ⌜ ChaCha20-known ⌝ }
-{
-}
+{}
 
 fn siphash24_answer_stands()
     ensures { λ _. ⌜ SipHash-known ⌝ }
-{
-}
+{}
 
 /// Holds two theorems in its contract: a published answer of each definition.
 pub fn known_answers_stand() -> u8

@@ -46,9 +46,15 @@ impl SipState {
     fn compress(self, m: u64) -> SipState
         ensures { λ r. ⌜ r ≡ compressed m self ⌝ }
     {
-        let mixed = SipState { v3: self.v3 ^ m, ..self };
+        let mixed = SipState {
+            v3: self.v3 ^ m,
+            ..self
+        };
         let rounded = mixed.round().round();
-        SipState { v0: rounded.v0 ^ m, ..rounded }
+        SipState {
+            v0: rounded.v0 ^ m,
+            ..rounded
+        }
     }
 
     fn compress_words(self, message: &[u8]) -> SipState
@@ -64,7 +70,10 @@ impl SipState {
     fn finish(self) -> u64
         ensures { λ r. ⌜ r ≡ finalised self ⌝ }
     {
-        let marked = SipState { v2: self.v2 ^ 0xff, ..self };
+        let marked = SipState {
+            v2: self.v2 ^ 0xff,
+            ..self
+        };
         let last = marked.round().round().round().round();
         last.v0 ^ last.v1 ^ last.v2 ^ last.v3
     }
@@ -121,5 +130,8 @@ fn last_word(message: &[u8]) -> u64
 pub fn siphash24(key: &[u8; 16], message: &[u8]) -> u64
     ensures { λ r. ⌜ r ≡ siphash-tag (now (key .entry)) (now (message .entry)) ⌝ }
 {
-    SipState::new(key).compress_words(message).compress(last_word(message)).finish()
+    SipState::new(key)
+        .compress_words(message)
+        .compress(last_word(message))
+        .finish()
 }

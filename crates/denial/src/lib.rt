@@ -16,12 +16,14 @@ pub enum Layer {
 
 pub impl fmt::Display for Layer as LayerDisplay {
     fn fmt<W: fmt::Write>(&self, f: &mut fmt::Formatter<W>) -> fmt::Result {
-        f.write_str(match self {
-            Layer::Store => "store",
-            Layer::Card => "card",
-            Layer::Seal => "seal",
-            Layer::Tape => "tape",
-        })
+        f.write_str(
+            match self {
+                Layer::Store => "store",
+                Layer::Card => "card",
+                Layer::Seal => "seal",
+                Layer::Tape => "tape",
+            },
+        )
     }
 }
 

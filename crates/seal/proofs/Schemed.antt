@@ -36,9 +36,9 @@ module _ (cover : Cover) (tag : Tagging) (fit : Fit cover tag) where
       let row = sealed-by cover tag p c body in
       let apart = record-apart c covered (tag p c covered) hc (fit .covers-all p c body h) (fit .tags-eight p c covered) in
       let same : tag p (counter-in row) (sealed-in row) ≡ tag-in row
-          = ap (λ (n : ℕ). tag p n (sealed-in row)) (apart .counter-back) ∙ (ap (tag p c) (apart .sealed-back) ∙ sym (apart .tag-back)) in
+      = ap (λ (n : ℕ). tag p n (sealed-in row)) (apart .counter-back) ∙ (ap (tag p c) (apart .sealed-back) ∙ sym (apart .tag-back)) in
       let test : (eqb (length row) 64 && sameBytes (tag p (counter-in row) (sealed-in row)) (tag-in row)) ≡ true
-          = and-from _ _ (eq-eqb _ _ (apart .record-long)) (sameBytes-decides _ _ .1 same) in
+      = and-from _ _ (eq-eqb _ _ (apart .record-long)) (sameBytes-decides _ _ .1 same) in
       cond-true _ _ _ test
       ∙ (ap (λ (n : ℕ). Some (n, cover p n (sealed-in row))) (apart .counter-back)
       ∙ (ap (λ (u : Bytes). Some (c, cover p c u)) (apart .sealed-back) ∙ ap (λ (u : Bytes). Some (c, u)) (fit .uncovers p c body h)))

@@ -31,7 +31,13 @@ impl Scheme for BenchSeal as BenchScheme {
 pub impl Seal for BenchSeal as BenchSealing {
     ghost rules = { λ _. rules-by bench-cover bench-tag };
 
-    fn seal(&self, at: Place, counter: u32, body: &[u8], buffer: &mut [u8]) -> Result<(), SealFault> {
+    fn seal(
+        &self,
+        at: Place,
+        counter: u32,
+        body: &[u8],
+        buffer: &mut [u8],
+    ) -> Result<(), SealFault> {
         seal_by(self, at, counter, body, buffer)
     }
 

@@ -24,7 +24,13 @@ pub trait Scheme {
         ensures { λ r. ⌜ r ≡ tags (now (self .entry)) (at .0) counter (now (covered .entry)) ⌝ };
 }
 
-pub fn seal_by<M: Scheme>(scheme: &M, at: Place, counter: u32, body: &[u8], buffer: &mut [u8]) -> Result<(), SealFault>
+pub fn seal_by<M: Scheme>(
+    scheme: &M,
+    at: Place,
+    counter: u32,
+    body: &[u8],
+    buffer: &mut [u8],
+) -> Result<(), SealFault>
     ensures { λ r. ⌜ (told seal-denial r, now (buffer .exit)) ≡ seal-of (rules-by (M·Scheme .covers (now (scheme .entry))) (M·Scheme .tags (now (scheme .entry)))) (at .0) counter (now (body .entry)) (now (buffer .entry)) ⌝ }
 {
     let Ok(body) = <&[u8; 52]>::try_from(body) else {
@@ -44,7 +50,12 @@ pub fn seal_by<M: Scheme>(scheme: &M, at: Place, counter: u32, body: &[u8], buff
     Ok(())
 }
 
-pub fn open_by<M: Scheme>(scheme: &M, at: Place, bytes: &[u8], buffer: &mut [u8]) -> Result<u32, SealFault>
+pub fn open_by<M: Scheme>(
+    scheme: &M,
+    at: Place,
+    bytes: &[u8],
+    buffer: &mut [u8],
+) -> Result<u32, SealFault>
     ensures { λ r. ⌜ (told seal-denial r, now (buffer .exit)) ≡ open-of (rules-by (M·Scheme .covers (now (scheme .entry))) (M·Scheme .tags (now (scheme .entry)))) (at .0) (now (bytes .entry)) (now (buffer .entry)) ⌝ }
 {
     let Ok(bytes) = <&[u8; 64]>::try_from(bytes) else {

@@ -67,7 +67,13 @@ impl Scheme for StreetSeal as StreetScheme {
 pub impl Seal for StreetSeal as StreetSealing {
     ghost rules = { λ s. rules-by (street-cover (s .«body_key»)) (street-tag (s .«tag_key»)) };
 
-    fn seal(&self, at: Place, counter: u32, body: &[u8], buffer: &mut [u8]) -> Result<(), SealFault> {
+    fn seal(
+        &self,
+        at: Place,
+        counter: u32,
+        body: &[u8],
+        buffer: &mut [u8],
+    ) -> Result<(), SealFault> {
         seal_by(self, at, counter, body, buffer)
     }
 

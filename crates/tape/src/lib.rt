@@ -1,4 +1,5 @@
 //! Tapes: where the random words come from. One trait with its meaning, and the kinds of tape.
 pub mod fault;
+pub mod keyed;
 pub mod tape;
 pub mod words;

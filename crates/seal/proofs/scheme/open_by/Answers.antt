@@ -30,8 +30,8 @@ returns-then-ne g c =
     let tag = at-parts (g .M·Scheme .tags (c .args .scheme .now)) (c .args .at .0) _ _ _ _ _ (whole .same) (row .counter) (row .sealed) (c .tag .ensures) in
     let no = not-true (c .ne .ensures .0) (sym (c .ne .ensures .2) ∙ c .if-ne .taken) in
     sym (open-untagged (g .M·Scheme .covers (c .args .scheme .now)) (g .M·Scheme .tags (c .args .scheme .now)) (c .args .at .0) (c .args .bytes .now) (c .args .buffer .now)
-      (whole .long) (c .if-buffer-ne52 .left)
-      (λ e. both-ways (c .ne .ensures .0) no (d .1 (tag ∙ (e ∙ (ap tag-in (sym (whole .same)) ∙ sym (row .tag)))))))
+    (whole .long) (c .if-buffer-ne52 .left)
+    (λ e. both-ways (c .ne .ensures .0) no (d .1 (tag ∙ (e ∙ (ap tag-in (sym (whole .same)) ∙ sym (row .tag)))))))
 
 pub returns : need.returns
 returns g c =
@@ -43,5 +43,5 @@ returns g c =
     let yes = not-false (c .ne .ensures .0) (sym (c .ne .ensures .2) ∙ c .if-ne .left) in
     granted _ _ _ _ (row .counter ∙ ap counter-in (whole .same)) (c .copy-from-slice .ensures .after ∙ body)
     ∙ sym (open-tagged (g .M·Scheme .covers (c .args .scheme .now)) (g .M·Scheme .tags (c .args .scheme .now)) (c .args .at .0) (c .args .bytes .now) (c .args .buffer .now)
-      (whole .long) (c .if-buffer-ne52 .left)
-      (sym tag ∙ (d .0 yes ∙ (row .tag ∙ ap tag-in (whole .same)))))
+    (whole .long) (c .if-buffer-ne52 .left)
+    (sym tag ∙ (d .0 yes ∙ (row .tag ∙ ap tag-in (whole .same)))))

@@ -23,5 +23,5 @@ pub returns : need.returns
 returns c =
     let b = c .copy-from-slice-2 .ensures .after ∙ (c .to-le-bytes-2 .ensures ∙ little-four (c .args .counter)) in
     joined (c .args .at .0) (c .args .counter) (c .args .covered .now) (c .copy-from-slice .last .self) (c .copy-from-slice-2 .last .self) (c .copy-from-slice-3 .last .self)
-        (c .copy-from-slice .ensures .after ∙ (c .to-le-bytes .ensures ∙ little-four (c .args .at .0)))
-        b (c .copy-from-slice-3 .ensures .after) (omega arith) (ap length b)
+    (c .copy-from-slice .ensures .after ∙ (c .to-le-bytes .ensures ∙ little-four (c .args .at .0)))
+    b (c .copy-from-slice-3 .ensures .after) (omega arith) (ap length b)

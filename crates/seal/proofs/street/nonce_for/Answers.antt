@@ -18,5 +18,5 @@ returns c =
     let b : Bytes = c .copy-from-slice-2 .last .self in
     put-next 4 4 a (replicate 8 0) b (omega arith)
     ∙ joined (c .args .at .0) (c .args .counter) a b
-        (c .copy-from-slice .ensures .after ∙ (c .to-le-bytes .ensures ∙ little-four (c .args .at .0)))
-        (c .copy-from-slice-2 .ensures .after ∙ (c .to-le-bytes-2 .ensures ∙ little-four (c .args .counter)))
+    (c .copy-from-slice .ensures .after ∙ (c .to-le-bytes .ensures ∙ little-four (c .args .at .0)))
+    (c .copy-from-slice-2 .ensures .after ∙ (c .to-le-bytes-2 .ensures ∙ little-four (c .args .counter)))

@@ -21,6 +21,6 @@ returns c =
     let front : Bytes = c .copy-from-slice .last .self in
     let value : Bytes = c .copy-from-slice-2 .last .self in
     let e = put-last 4 48 front zeros value (omega arith) (omega arith)
-        ∙ laid n v front value (c .copy-from-slice .ensures .after ∙ (c .to-le-bytes .ensures ∙ little-four n)) (c .copy-from-slice-2 .ensures .after) in
+    ∙ laid n v front value (c .copy-from-slice .ensures .after ∙ (c .to-le-bytes .ensures ∙ little-four n)) (c .copy-from-slice-2 .ensures .after) in
     let P : Bytes → Type 0 = λ u. Body-apart n v u in
     record { laid-out = e; comes-apart-again = subst P (sym e) (body-apart n v (omega arith) (omega arith)) }

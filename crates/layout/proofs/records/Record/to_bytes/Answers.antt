@@ -27,8 +27,8 @@ returns c =
     let s = c .args .self .sealed in
     let t = c .args .self .tag in
     let e = laid n s t (c .copy-from-slice .last .self) (c .copy-from-slice-2 .last .self) (c .copy-from-slice-3 .last .self)
-        (c .copy-from-slice .ensures .after ∙ (c .to-le-bytes .ensures ∙ little-four n))
-        (c .copy-from-slice-2 .ensures .after) (c .copy-from-slice-3 .ensures .after) (omega arith) (ap length (c .copy-from-slice-2 .ensures .after) ∙ omega arith) in
+    (c .copy-from-slice .ensures .after ∙ (c .to-le-bytes .ensures ∙ little-four n))
+    (c .copy-from-slice-2 .ensures .after) (c .copy-from-slice-3 .ensures .after) (omega arith) (ap length (c .copy-from-slice-2 .ensures .after) ∙ omega arith) in
     let P : Bytes → Type 0 = λ u. Record-apart n s t u in
     record { laid-out = e; comes-apart-again = subst P (sym e) (record-apart n s t (omega arith) (omega arith) (omega arith)) }
 
