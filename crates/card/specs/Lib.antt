@@ -1,2 +1,4 @@
 pub mod Faults
 pub mod Cards
+pub mod Kinds
+pub mod Layers

@@ -6,16 +6,76 @@ use Rattle.std.specs.declared.result.Result.{Result}
 use Rattle.std.specs.declared.result.Result.the-variants.{Ok, Err}
 use Rattle.layout.specs.declared.names.Place.{Place}
 use Rattle.denial.specs.declared.Layer.{Layer}
-use Rattle.denial.specs.declared.Layer.the-variants.{Card, Seal, Tape}
+use Rattle.denial.specs.declared.Layer.the-variants.{Store, Card, Seal, Tape}
 
 pub record Denial : Type 0 where
   pub number : ℕ
   pub layer : Layer
   pub place : Option ℕ
 
+-- a denial of the store's own, which names no place
+abbrev pub by-store : ℕ → Denial
+by-store n = record { number = n; layer = Store; place = None }
+
+-- and one that names a place
+abbrev pub by-store-at : ℕ → ℕ → Denial
+by-store-at n p = record { number = n; layer = Store; place = Some p }
+
+-- 1: a map file under 10 bytes, or of another length than its own count of landed blocks gives
+abbrev pub file-length : Denial
+file-length = by-store 1
+
+-- 2: the count of blocks is 0 or above 512
+abbrev pub block-count : Denial
+block-count = by-store 2
+
+-- 3: the card counts fewer than twice as many places as there are blocks, or more than 1,024, or not as many as the file says
+abbrev pub place-count : Denial
+place-count = by-store 3
+
+-- 4: an entry's block is not below the count or not above the one before, or its place is not on the card or was listed before
+abbrev pub file-entry : Denial
+file-entry = by-store 4
+
+-- 5: a clear counter on the card is above the file's last counter; the lowest such place
+abbrev pub counter-above : ℕ → Denial
+counter-above p = by-store-at 5 p
+
+-- 6: a listed place does not open; it holds the seal's own denial
+abbrev pub entry-unopened : ℕ → Denial
+entry-unopened p = by-store-at 6 p
+
+-- 7: a listed place opens to another block
+abbrev pub entry-other : ℕ → Denial
+entry-other p = by-store-at 7 p
+
+-- 8: the block is not below the count of blocks
+abbrev pub block-beyond : Denial
+block-beyond = by-store 8
+
+-- 9: the value is longer than 48 bytes
+abbrev pub value-long : Denial
+value-long = by-store 9
+
+-- 10: a block waits, so there is nothing to save yet
+abbrev pub blocks-wait : Denial
+blocks-wait = by-store 10
+
+-- 11: the buffer has not the length that the call asks for
+abbrev pub buffer-length : Denial
+buffer-length = by-store 11
+
+-- 12: sixteen blocks wait, and this one is not among them
+abbrev pub list-full : Denial
+list-full = by-store 12
+
 -- 13: no word is left on the tape
 abbrev pub tape-spent : Denial
 tape-spent = record { number = 13; layer = Tape; place = None }
+
+-- 14: the last counter is the highest that there is
+abbrev pub counter-spent : Denial
+counter-spent = by-store 14
 
 -- 15: the place is not below the card's count; it names the place that was given
 abbrev pub place-beyond : ℕ → Denial

@@ -16,7 +16,8 @@ use Rattle.layout.specs.Numbers.{Bytes, little}
 use Rattle.layout.specs.Layouts.{record-of, counter-in, sealed-in, tag-in}
 use Rattle.layout.proofs.Littles.{length-little}
 use Rattle.layout.proofs.Apart.{record-apart}
-use Rattle.seal.specs.Schemes.{Cover, Tagging, sealed-by, opened-by}
+use Rattle.seal.specs.Seals.{Lawful}
+use Rattle.seal.specs.Schemes.{Cover, Tagging, sealed-by, opened-by, rules-by}
 
 -- what the laws ask of a cover and a tag
 pub record Fit (cover : Cover) (tag : Tagging) : Type 0 where
@@ -29,7 +30,7 @@ kept-some true x y e = (refl, cc)
 kept-some false x y e = let z : _≡_ {A = ℕ} 0 1 = cc in absurd (omega arith)
 
 module _ (cover : Cover) (tag : Tagging) (fit : Fit cover tag) where
-  pub opens-again : (p c : ℕ) (body : Bytes) → p < 2 ^ 32 → c < 2 ^ 32 → length body ≡ 52
+  opens-again : (p c : ℕ) (body : Bytes) → p < 2 ^ 32 → c < 2 ^ 32 → length body ≡ 52
       → opened-by cover tag p (sealed-by cover tag p c body) ≡ Some (c, body)
   opens-again p c body hp hc h =
       let covered = cover p c body in
@@ -43,18 +44,18 @@ module _ (cover : Cover) (tag : Tagging) (fit : Fit cover tag) where
       ∙ (ap (λ (n : ℕ). Some (n, cover p n (sealed-in row))) (apart .counter-back)
       ∙ (ap (λ (u : Bytes). Some (c, cover p c u)) (apart .sealed-back) ∙ ap (λ (u : Bytes). Some (c, u)) (fit .uncovers p c body h)))
 
-  pub counter-first : (p c : ℕ) (body : Bytes) → take 4 (sealed-by cover tag p c body) ≡ little 4 c
+  counter-first : (p c : ℕ) (body : Bytes) → take 4 (sealed-by cover tag p c body) ≡ little 4 c
   unfolding record-of
   counter-first p c body = take-at (little 4 c) (cover p c body ++ tag p c (cover p c body)) 4 (length-little 4 c)
 
-  pub sealed-whole : (p c : ℕ) (body : Bytes) → length body ≡ 52 → length (sealed-by cover tag p c body) ≡ 64
+  sealed-whole : (p c : ℕ) (body : Bytes) → length body ≡ 52 → length (sealed-by cover tag p c body) ≡ 64
   unfolding record-of
   sealed-whole p c body h =
       let a = fit .covers-all p c body h in
       let b = fit .tags-eight p c (cover p c body) in
       simp length-append (omega arith)
 
-  pub opened-whole : (p c : ℕ) (bytes body : Bytes) → opened-by cover tag p bytes ≡ Some (c, body) → length body ≡ 52
+  opened-whole : (p c : ℕ) (bytes body : Bytes) → opened-by cover tag p bytes ≡ Some (c, body) → length body ≡ 52
   unfolding sealed-in
   opened-whole p c bytes body e =
       let g = kept-some _ _ (c, body) e in
@@ -62,3 +63,6 @@ module _ (cover : Cover) (tag : Tagging) (fit : Fit cover tag) where
       let s : length (sealed-in bytes) ≡ 52 = simp (length-take, length-drop) (omega arith) in
       let k : cover p (counter-in bytes) (sealed-in bytes) ≡ body = ap (λ (x : ℕ × Bytes). x .1) (g .1) in
       ap length (sym k) ∙ fit .covers-all p (counter-in bytes) (sealed-in bytes) s
+
+  pub lawful : Lawful (rules-by cover tag)
+  lawful = record { opens = opens-again; counted = λ p c body hc h. counter-first p c body; sealed-long = sealed-whole; opened-long = opened-whole }

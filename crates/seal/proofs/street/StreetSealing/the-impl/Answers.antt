@@ -8,7 +8,7 @@ use Rattle.cipher.specs.Siphash.{siphash}
 use Rattle.cipher.proofs.Sizes.{length-block}
 use Rattle.seal.specs.Schemes.{nonce-of, keystream, street-cover, street-tag, tagged-bytes}
 use Rattle.seal.proofs.Combined.{length-combined, combined-twice}
-use Rattle.seal.proofs.Schemed.{Fit, opens-again, counter-first, sealed-whole, opened-whole}
+use Rattle.seal.proofs.Schemed.{Fit, lawful}
 use Rattle.seal.proofs.street.StreetSealing.the-impl.Needs as need
 
 long-enough : (key : Bytes) (p n : ℕ) (body : Bytes) → length body ≡ 52 → length body ≤ length (keystream key p n)
@@ -26,14 +26,5 @@ fit body-key tag-key = record {
   tags-eight = λ p n covered. eight tag-key p n covered;
 }
 
-pub opens-what-it-sealed-law : need.opens-what-it-sealed-law
-opens-what-it-sealed-law s = opens-again (street-cover (s .«body_key»)) (street-tag (s .«tag_key»)) (fit (s .«body_key») (s .«tag_key»))
-
-pub counter-comes-first-law : need.counter-comes-first-law
-counter-comes-first-law s p c body hc h = counter-first (street-cover (s .«body_key»)) (street-tag (s .«tag_key»)) (fit (s .«body_key») (s .«tag_key»)) p c body
-
-pub sealed-is-whole-law : need.sealed-is-whole-law
-sealed-is-whole-law s = sealed-whole (street-cover (s .«body_key»)) (street-tag (s .«tag_key»)) (fit (s .«body_key») (s .«tag_key»))
-
-pub opened-is-whole-law : need.opened-is-whole-law
-opened-is-whole-law s = opened-whole (street-cover (s .«body_key»)) (street-tag (s .«tag_key»)) (fit (s .«body_key») (s .«tag_key»))
+pub lawful-law : need.lawful-law
+lawful-law s = lawful (street-cover (s .«body_key»)) (street-tag (s .«tag_key»)) (fit (s .«body_key») (s .«tag_key»))

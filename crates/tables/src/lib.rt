@@ -1,0 +1,3 @@
+//! The store's tables: the position map and the waiting list.
+pub mod positions;
+pub mod waiting;
