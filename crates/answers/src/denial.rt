@@ -19,6 +19,7 @@ use seal::fault::SealFault;
 use seal::fault::SealFaultDebug;
 use seal::fault::SealFaultPartialEq;
 use seal::fault::SealFaultTells;
+use std::alloc::AllocError;
 use tape::fault::TapeFault;
 use tape::fault::TapeFaultDebug;
 use tape::fault::TapeFaultPartialEq;
@@ -114,5 +115,13 @@ pub impl From<TapeFault> for Denial as DenialFromTape {
 
     fn from(fault: TapeFault) -> Denial {
         Denial::ByTape(fault)
+    }
+}
+
+pub impl From<AllocError> for Denial as DenialFromAlloc {
+    ghost converts = { λ _ d. d ≡ NoMemory };
+
+    fn from(_error: AllocError) -> Denial {
+        Denial::NoMemory
     }
 }

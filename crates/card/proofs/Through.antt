@@ -11,8 +11,8 @@ use Rattle.std.proofs.shelf.Tests.{lt-ltb}
 use Rattle.layout.specs.Numbers.{Bytes}
 use Rattle.denial.specs.Denials.{Denial, wrong-size}
 use Rattle.denial.specs.declared.Layer.the-variants.{Card}
-use Rattle.card.specs.Cards.{allowed, if-granted, get-of, put-of}
-use Rattle.card.specs.Layers.{shown, Lies-at}
+use Rattle.card.specs.Cards.{allowed, if-granted}
+use Rattle.card.specs.Layers.{Lies-at}
 
 -- at a place that a card has, the size alone is tested
 size-alone : (rs : List Bytes) (p n : ℕ) → p < length rs → allowed rs p n ≡ cond (eqb n 64) (Ok tt) (Err (wrong-size Card))

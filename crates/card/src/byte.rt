@@ -3,7 +3,7 @@ ghost use mathlib.Core.Path.{_≡_};
 ghost use mathlib.Core.List.{[]};
 ghost use Prim.Native.Nat.{_<_};
 ghost use lib.ListN.{length, getD, set};
-ghost use denote.Ref.{now as at-ref};
+ghost use denote.Ref.{now as behind, name};
 ghost use Rattle.denial.specs.Denials.{told};
 ghost use Rattle.card.specs.Faults.{card-denial};
 ghost use Rattle.card.specs.Cards.{put-of};
@@ -24,9 +24,10 @@ pub struct ByteCard<'a> {
 impl<'a> ByteCard<'a> {
     /// The card that lies in these bytes.
     pub fn new(bytes: &'a mut [u8]) -> ByteCard<'a>
-        ensures { λ r. ⌜ now (r .bytes) ≡ now (bytes .entry) ⌝ }
+        ensures holds_the_bytes { λ r. ⌜ now (r .bytes) ≡ now (bytes .entry) ⌝ }
+        ensures bytes_are_those_lent { λ r. ⌜ name (r .bytes) ≡ name (bytes .entry) ⌝ }
     {
-        ByteCard { bytes }
+        Self { bytes }
     }
 
     /// Copies the record at a place into a buffer for one.
@@ -44,6 +45,7 @@ impl<'a> ByteCard<'a> {
         ensures record_replaced { λ _. ⌜ byte-records (now (now (self .exit) .bytes)) ≡ set (byte-records (now (now (self .entry) .bytes))) (at .0) (now (bytes .entry)) ⌝ }
         ensures bytes_after_the_last_record_stay { λ _. ⌜ byte-rest (now (now (self .exit) .bytes)) ≡ byte-rest (now (now (self .entry) .bytes)) ⌝ }
         ensures length_stays { λ _. ⌜ length (now (now (self .exit) .bytes)) ≡ length (now (now (self .entry) .bytes)) ⌝ }
+        ensures bytes_are_those_lent { λ _. ⌜ name (now (self .exit) .bytes) ≡ name (now (self .entry) .bytes) ⌝ }
     {
         let from = at.0 as usize * RECORD_LEN;
         self.bytes[from..from + RECORD_LEN].copy_from_slice(bytes);
@@ -51,7 +53,7 @@ impl<'a> ByteCard<'a> {
 }
 
 pub impl Card for ByteCard<'_> as BytesAsCard {
-    ghost records = { λ c. byte-records (at-ref (c .bytes)) };
+    ghost records = { λ c. byte-records (behind (c .bytes)) };
 
     fn count(&self) -> u32 {
         (self.bytes.len() / RECORD_LEN).min(MOST_RECORDS as usize) as u32
@@ -72,6 +74,7 @@ pub impl Card for ByteCard<'_> as BytesAsCard {
         ensures answer_and_records { λ r. ⌜ (told card-denial r, byte-records (now (now (self .exit) .bytes))) ≡ put-of (byte-records (now (now (self .entry) .bytes))) (at .0) (now (bytes .entry)) ⌝ }
         ensures bytes_after_the_last_record_stay { λ _. ⌜ byte-rest (now (now (self .exit) .bytes)) ≡ byte-rest (now (now (self .entry) .bytes)) ⌝ }
         ensures length_stays { λ _. ⌜ length (now (now (self .exit) .bytes)) ≡ length (now (now (self .entry) .bytes)) ⌝ }
+        ensures bytes_are_those_lent { λ _. ⌜ name (now (self .exit) .bytes) ≡ name (now (self .entry) .bytes) ⌝ }
     {
         if at.0 >= self.count() {
             return Err(CardFault::Beyond(at));

@@ -27,7 +27,7 @@ impl<C: Card, D: Card> SplitCard<C, D> {
     pub fn new(even: C, odd: D) -> SplitCard<C, D>
         ensures { λ r. ⌜ (r .even ≡ even) × (r .odd ≡ odd) ⌝ }
     {
-        SplitCard { even, odd }
+        Self { even, odd }
     }
 
     /// Gives both cards back, that of the even places first.

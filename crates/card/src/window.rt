@@ -19,7 +19,7 @@ impl<C: Card> WindowCard<C> {
     pub fn new(below: C, start: u32, len: u32) -> WindowCard<C>
         ensures { λ r. ⌜ (r .below ≡ below) × (r .start ≡ start) × (r .len ≡ len) ⌝ }
     {
-        WindowCard { below, start, len }
+        Self { below, start, len }
     }
 
     /// Gives the card below back.

@@ -1,9 +1,8 @@
 -- Words read from bytes. Assumes nothing.
-use mathlib.Core.Path.{_≡_, refl, sym, ap, _∙_}
-use mathlib.Core.List.{List, [], _∷_}
+use mathlib.Core.Path.{_≡_, refl, ap, _∙_}
+use mathlib.Core.List.{[], _∷_}
 use Prim.Native.Nat.{ℕ, zero, suc, _+_, _*_, _≤_}
 use native.Mathlib.Omega.{arith}
-use native.Mathlib.Numerals.{add-one}
 use lib.ListN.{length, getD, take, drop}
 use Rattle.std.proofs.shelf.Lists.{take-all, length-drop, getD-past}
 use Rattle.layout.specs.Numbers.{Bytes, number}
@@ -35,7 +34,6 @@ pub number-at-eight : (bs : Bytes) (i : ℕ)
     + getD bs (i + 4) 0 * 4294967296 + getD bs (i + 5) 0 * 1099511627776 + getD bs (i + 6) 0 * 281474976710656 + getD bs (i + 7) 0 * 72057594037927936
     ≡ number (take 8 (drop i bs))
 number-at-eight bs i =
-    let four = number-at-four bs (i + 4) in
     let p0 = number-step bs i (i + 1) 7 (omega arith) in
     let p1 = number-step bs (i + 1) (i + 2) 6 (omega arith) in
     let p2 = number-step bs (i + 2) (i + 3) 5 (omega arith) in

@@ -13,7 +13,7 @@ add64 x y = (x + y) % 2 ^ 64
 abbrev pub rotate64 : ℕ → ℕ → ℕ
 rotate64 x n = bitOr ((x * 2 ^ n) % 2 ^ 64) (x / 2 ^ (64 - n))
 
--- SipRound: two half rounds, in each of which a word is added, rotated and combined on both sides
+-- SipRound: sums, rotations and exclusive ors of the four words, each prime a later value of the word
 unfoldable pub sip-round : SipState → SipState
 sip-round s =
     let v0 = add64 (s .v0) (s .v1) in

@@ -1,0 +1,10 @@
+pub mod Formats
+pub mod Granted
+pub mod Invariant
+pub mod LawOfRuns
+pub mod Lookups
+pub mod Resumes
+pub mod SavedFiles
+pub mod Steps
+pub mod Transcripts
+pub mod WorkedRun

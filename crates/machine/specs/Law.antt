@@ -2,7 +2,7 @@
 use mathlib.Core.Path.{_≡_}
 use mathlib.Core.List.{List, [], _∷_, _++_, map}
 use mathlib.Core.Logic.{_↔_}
-use Prim.Native.Nat.{ℕ, _+_, _%_, _<_}
+use Prim.Native.Nat.{ℕ, _+_, _%_, _≤_, _<_}
 use lib.ListN.{length, getD, set, take, drop}
 use Rattle.std.specs.declared.option.Option.the-variants.{Some, None}
 use Rattle.std.specs.declared.result.Result.the-variants.{Ok}
@@ -11,8 +11,8 @@ use Rattle.layout.specs.Numbers.{Bytes}
 use Rattle.layout.specs.Layouts.{body-of, value-in, dummy-body, face}
 use Rattle.denial.specs.Denials.{Denial}
 use Rattle.seal.specs.Seals.{Rules}
-use Rattle.machine.specs.Files.{file-last}
-use Rattle.machine.specs.Machine.{Machine, Call, Read, Save, Deed, Dummy, Landed, Sealed-again, Reason, Denial-of, Answer, Written, Valued, Beaten, Saved, Shown, Denied, opened-at, occupant}
+use Rattle.machine.specs.Files.{file-length-of, file-last}
+use Rattle.machine.specs.Machine.{Machine, Call, Write, Read, Beat, Save, Face, Deed, Dummy, Landed, Sealed-again, Reason, Denial-of, Answer, Written, Valued, Beaten, Saved, Shown, Denied, opened-at, occupant}
 use Rattle.machine.specs.Makings.{Making, Format, Resume, Open, make}
 use Rattle.machine.specs.Runs.{Run, Sealing, making-sealings, after, next, blocks, first-face, first-counter, faces, beat-places, sealings, latest}
 
@@ -24,6 +24,10 @@ No-beat (Beaten p c d) = ⊥
 No-beat (Saved n) = Unit {0}
 No-beat Shown = Unit {0}
 No-beat (Denied r) = Unit {0}
+
+-- a granted beat
+abbrev pub Is-beat : Answer → Type 0
+Is-beat a = (p : ℕ) × (counter : ℕ) × (deed : Deed) × (a ≡ Beaten p counter deed)
 
 -- two runs are alike in every granted read
 abbrev pub Alike : Run → Run → Type 0
@@ -96,6 +100,15 @@ pub record Law : Type 0 where
   -- a granted beat puts one record
   pub beats-put-one-record : (x : Run) (c : Call) (p counter : ℕ) (deed : Deed) → next x c .answer ≡ Beaten p counter deed
       → One-put (x .rules) (after x) (next x c .machine) p counter deed
+  -- a beat is granted while a word is left and the last counter is not the highest
+  pub beats-are-granted : (x : Run) → 0 < length (after x .tape) → after x .last < 4294967295 → Is-beat (next x Beat .answer)
+  -- a write of at most 48 bytes to a block of the store is granted while fewer than sixteen wait
+  pub writes-are-granted : (x : Run) (b : ℕ) (v : Bytes) → b < blocks x → length v ≤ 48 → length (after x .waiting) < 16 → next x (Write b v) .answer ≡ Written
+  -- with nobody waiting a save into enough bytes is granted
+  pub saves-are-granted : (x : Run) (s : Bytes) → after x .waiting ≡ [] → file-length-of (after x .places) ≤ length s
+      → next x (Save s) .answer ≡ Saved (file-length-of (after x .places))
+  -- a face call into as many numbers as there are places shows the card's face
+  pub faces-are-shown : (x : Run) (s : List ℕ) → length s ≡ length (x .card) → (next x (Face s) .answer ≡ Shown) × (next x (Face s) .buffer ≡ face (after x .card))
   -- any other call leaves the card, the places, the tape and the last counter
   pub others-keep-the-rest : (x : Run) (c : Call) → No-beat (next x c .answer) → Rest-kept (after x) (next x c .machine)
   -- no call of a made store is denied with 15, 16 or 17

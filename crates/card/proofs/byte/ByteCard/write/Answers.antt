@@ -1,4 +1,4 @@
-use mathlib.Core.Path.{_≡_, ap, _∙_}
+use mathlib.Core.Path.{_≡_, refl, ap, _∙_}
 use Prim.Native.Nat.{ℕ, _*_, _-_, _+_, _<_}
 use native.Mathlib.Omega.{arith}
 use borrow.Rule.Slice.PartMut.{putMid}
@@ -28,4 +28,5 @@ returns c =
       record-replaced = ap byte-records written ∙ (records-write p s r below whole ∙ ap (set (byte-records s) p) copied);
       bytes-after-the-last-record-stay = ap byte-rest written ∙ rest-write p s r below whole;
       length-stays = ap length written ∙ length-write (p * 64) s r (omega arith) whole;
+      bytes-are-those-lent = refl;
     }

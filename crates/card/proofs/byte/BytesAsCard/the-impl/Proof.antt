@@ -1,5 +1,5 @@
--- A byte card is a card: each method's contract gives the trait's at the lifetime of the lent bytes, and the laws hold of any bytes.
--- It is the proof that Rattle makes for an impl with no law, with the two laws added: at a lifetime parameter it makes none.
+-- A byte card is a card: each method gives what the trait says, at the lifetime of the lent bytes, and the laws hold of any bytes.
+-- Rattle makes such a proof for an impl whose trait has no law, or that has no lifetime parameter. This one adds the two laws to it.
 use mathlib.Core.Path.{refl}
 use mathlib.Core.Bool.{true}
 use mathlib.Core.List.{[]}
@@ -12,7 +12,6 @@ use prog.Wp.{Heap}
 use prog.Wired.{Wired}
 use prog.Model.{Model}
 use prog.Routine.{Env}
-use ghost.Atoms.{Atoms}
 use contract.BorrowLft.{_⊑_, ⊑-refl, ⊑-trans}
 use contract.Running.{Running, GhostRules, givenOf, within}
 use denote.Param.{layouts}

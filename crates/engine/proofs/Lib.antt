@@ -1,0 +1,4 @@
+pub mod Beats
+pub mod Faces
+pub mod Fills
+pub mod Writes

@@ -1,0 +1,7 @@
+//! The hiding store: its makings and its calls.
+pub mod calls;
+mod checks;
+mod dummies;
+pub mod makings;
+mod memory;
+pub mod state;
