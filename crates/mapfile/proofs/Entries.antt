@@ -48,23 +48,7 @@ two-at bs at =
     let e = first-two (drop at bs) in
     omega arith
 
-first-four : (bs : Bytes) → getD bs 0 0 + getD bs 1 0 * 256 + getD bs 2 0 * 65536 + getD bs 3 0 * 16777216 ≡ number (take 4 bs)
-first-four [] = refl
-first-four (a ∷ []) = omega arith
-first-four (a ∷ b ∷ []) = omega arith
-first-four (a ∷ b ∷ c ∷ []) = omega arith
-first-four (a ∷ b ∷ c ∷ d ∷ bs) = omega arith
-
--- the four at byte 6
-pub four-at : (bs : Bytes) → getD bs 6 0 + getD bs 7 0 * 256 + getD bs 8 0 * 65536 + getD bs 9 0 * 16777216 ≡ number (take 4 (drop 6 bs))
-four-at bs =
-    let a = getD-drop 6 bs 0 0 in
-    let b = getD-drop 6 bs 1 0 in
-    let c = getD-drop 6 bs 2 0 in
-    let d = getD-drop 6 bs 3 0 in
-    let e = first-four (drop 6 bs) in
-    omega arith
-
+-- a number of two bytes, where each is below 256
 small : (bs : Bytes) → All (λ b. b < 256) bs → number (take 2 bs) < 65536
 small [] h = omega arith
 small (a ∷ []) h = let x : a < 256 = h .0 in omega arith

@@ -1,6 +1,6 @@
 //! A map file as it is read: the sizes, the last counter, and the landed blocks with their places.
 ghost use mathlib.Core.Path.{_≡_};
-ghost use Prim.Native.Nat.{_^_, _<_};
+ghost use Prim.Native.Nat.{_+_, _^_, _<_};
 ghost use lib.ListN.{getD, take, drop};
 ghost use Rattle.std.specs.Options.{Cases, mapped};
 ghost use Rattle.layout.specs.Numbers.{number};
@@ -59,7 +59,7 @@ impl<'a> MapFile<'a> {
         u32::from_le_bytes([byte_at(b, 6), byte_at(b, 7), byte_at(b, 8), byte_at(b, 9)])
     }
 
-    /// The entry `i`, a landed block and its place.
+    /// The entry `i`, a landed block and its place, if the file has so many.
     pub fn entry(&self, i: u32) -> Option<(Block, Place)>
         ensures the_entry { λ r. ⌜ entry-told r ≡ entry-at (now (now (self .entry) .bytes)) i ⌝ }
         ensures in_two_bytes { λ r. ⌜ Cases r Unit (λ e. (e .0 .0 < 65536) × (e .1 .0 < 65536)) ⌝ }
@@ -78,7 +78,7 @@ impl<'a> MapFile<'a> {
 
 /// The number that the two bytes at `at` spell.
 fn number_at(bytes: &[u8], at: usize) -> u32
-    requires { ⌜ at < 2 ^ 40 ⌝ }
+    requires { ⌜ at + 1 < 2 ^ 64 ⌝ }
     ensures spelled { λ r. ⌜ r ≡ number (take 2 (drop at (now (bytes .entry)))) ⌝ }
     ensures in_two_bytes { λ r. ⌜ r < 65536 ⌝ }
 {

@@ -4,3 +4,5 @@ pub mod fault;
 mod scheme;
 pub mod seal;
 pub mod street;
+#[cfg(test)]
+mod tests;

@@ -2,6 +2,7 @@
 pub mod calls;
 mod checks;
 mod dummies;
+mod entries;
 pub mod makings;
 mod memory;
 pub mod state;

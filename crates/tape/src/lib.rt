@@ -2,4 +2,6 @@
 pub mod fault;
 pub mod keyed;
 pub mod tape;
+#[cfg(test)]
+mod tests;
 pub mod words;
