@@ -1,6 +1,7 @@
 ghost use mathlib.Core.Path.{_≡_};
 ghost use mathlib.Core.List.{[]};
 ghost use Prim.Native.Nat.{ℕ};
+ghost use lib.ListN.{length};
 ghost use Rattle.machine.specs.Machine.{Write, Read, Beat as One-beat, Save, Face, Written, Valued, Saved, Shown};
 ghost use Rattle.machine.specs.Makings.{call};
 ghost use Rattle.engine.specs.Steps.{answer-by, by-reason, beat-told};
@@ -64,6 +65,16 @@ impl<C: Card, S: Seal, T: Tape> Store<C, S, T> {
         match self {
             Store::Open(open) => open.face(buffer),
             Store::Shut(shut) => Err(shut.denial),
+        }
+    }
+
+    /// How many places the card counts.
+    pub fn places(&self) -> u32
+        ensures { λ r. ⌜ r ≡ length (card-of (store (C·Card .records) (T·Tape .words) (now (self .entry)))) ⌝ }
+    {
+        match self {
+            Store::Open(open) => open.card.count(),
+            Store::Shut(shut) => shut.card.count(),
         }
     }
 
