@@ -8,7 +8,7 @@ use Rattle.seal.specs.Schemes.{rules-by, bench-cover, bench-tag}
 use Rattle.seal.specs.Seals.{Rules}
 use Rattle.machine.specs.Machine.{Call, Write, Read, Beat, Save, Landed, Sealed-again, Denial-of, Written, Valued, Beaten, Saved, Denied}
 use Rattle.machine.specs.Makings.{Format, make}
-use Rattle.machine.specs.Runs.{Seen, seen-on}
+use Rattle.machine.specs.Runs.{Seen, seen-on, Run, transcript}
 use Prim.Native.Nat.{ℕ}
 
 abbrev pub bench : Rules
@@ -44,3 +44,7 @@ Worked =
     ∷ record { answer = Denied (Denial-of tape-spent); buffer = []; face-after = 1 ∷ 6 ∷ 9 ∷ 8 ∷ [] }
     ∷ record { answer = Saved 18; buffer = 2 ∷ 0 ∷ 4 ∷ 0 ∷ 2 ∷ 0 ∷ 9 ∷ 0 ∷ 0 ∷ 0 ∷ 0 ∷ 0 ∷ 1 ∷ 0 ∷ 3 ∷ 0 ∷ 2 ∷ 0 ∷ 7 ∷ 7 ∷ []; face-after = 1 ∷ 6 ∷ 9 ∷ 8 ∷ [] }
     ∷ []
+
+-- the worked run is one of the runs of which the law speaks
+abbrev pub Worked-is-a-run : Type 0
+Worked-is-a-run = (x : Run) × ((x .rules ≡ bench) × ((x .making ≡ Format 2) × ((x .calls ≡ worked-calls) × (transcript x ≡ worked-run))))
