@@ -1,0 +1,4 @@
+pub mod Carried
+pub mod Performed
+pub mod Shown
+pub mod Told
