@@ -41,8 +41,8 @@ settles places after r b p v e =
     let inside = λ (h : b < length places). cond-true _ _ _ (lt-ltb b (length places) h) ∙ ap (settle-vacant places b p) v in
     ap (λ (x : Result (Unit {0}) Unsettled × List (Option ℕ)). x .1) e
     ∙ ⊎-elim (λ h. ap (λ (x : Result (Unit {0}) Unsettled × List (Option ℕ)). x .1) (inside h))
-      (λ h. ap (λ (x : Result (Unit {0}) Unsettled × List (Option ℕ)). x .1) (cond-false _ _ _ (le-ltb b (length places) h)) ∙ sym (set-past places b (Some p) h))
-      (cases-lt b (length places))
+    (λ h. ap (λ (x : Result (Unit {0}) Unsettled × List (Option ℕ)). x .1) (cond-false _ _ _ (le-ltb b (length places) h)) ∙ sym (set-past places b (Some p) h))
+    (cases-lt b (length places))
 
 -- the first that waits was sealed, its place moved, and it left the list
 pub beat-landed : (rules : Rules) (m n : Machine) (a : Answer) (p : ℕ) (w : ℕ × Bytes) (ps : List (Option ℕ)) (qs : List (ℕ × Bytes))

@@ -142,7 +142,8 @@ impl<C: Card, S: Seal, T: Tape> OpenStore<C, S, T> {
     {
         let counter = self.last + 1;
         let mut bytes = [0; 64];
-        self.seal.seal(place, counter, &body.to_bytes(), &mut bytes)?;
+        self.seal
+            .seal(place, counter, &body.to_bytes(), &mut bytes)?;
         self.card.put(place, &bytes)?;
         self.last = counter;
         Ok(Beat {

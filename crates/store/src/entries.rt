@@ -46,7 +46,12 @@ pub fn settle_entries(map: &mut PositionMap, file: &MapFile<'_>, count: u32) -> 
 }
 
 /// 6, then 7: whether a listed place opens, and to the listed block.
-fn check_entry<C: Card, S: Seal>(card: &C, seal: &S, block: Block, place: Place) -> Result<(), Denial>
+fn check_entry<C: Card, S: Seal>(
+    card: &C,
+    seal: &S,
+    block: Block,
+    place: Place,
+) -> Result<(), Denial>
     requires { ⌜ place .0 < length (C·Card .records (now card)) ⌝ }
     ensures { λ r. ⌜ by-reason r ≡ opening-check (entry-opened (block .0) (place .0) (opened-at (S·Seal .rules (now (seal .entry))) (C·Card .records (now (card .entry))) (place .0))) ⌝ }
 {

@@ -80,7 +80,12 @@ impl<C: Card, S: Seal, T: Tape> Store<C, S, T> {
 }
 
 /// Takes the memory first, and touches the card only then.
-fn prepare_format<C: Card, S: Seal>(heap: Global, card: &mut C, seal: &S, blocks: u32) -> Result<Memory, Denial>
+fn prepare_format<C: Card, S: Seal>(
+    heap: Global,
+    card: &mut C,
+    seal: &S,
+    blocks: u32,
+) -> Result<Memory, Denial>
     ensures { λ r. ⌜ Prepared (λ tape. format (S·Seal .rules (now (seal .entry))) (C·Card .records (now (card .entry))) tape blocks) (C·Card .records (now (card .entry))) (C·Card .records (now (card .exit))) r ⌝ }
 {
     let count = card.count();
@@ -96,7 +101,12 @@ fn prepare_format<C: Card, S: Seal>(heap: Global, card: &mut C, seal: &S, blocks
 }
 
 /// Checks the file, then the card against it.
-fn prepare_resume<C: Card, S: Seal>(heap: Global, card: &C, seal: &S, file: &[u8]) -> Result<Memory, Denial>
+fn prepare_resume<C: Card, S: Seal>(
+    heap: Global,
+    card: &C,
+    seal: &S,
+    file: &[u8],
+) -> Result<Memory, Denial>
     ensures { λ r. ⌜ Prepared (λ tape. resume (S·Seal .rules (now (seal .entry))) (C·Card .records (now (card .entry))) tape (now (file .entry))) (C·Card .records (now (card .entry))) (C·Card .records (now (card .entry))) r ⌝ }
 {
     let Some(file) = MapFile::parse(file) else {

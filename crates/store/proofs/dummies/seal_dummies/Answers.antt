@@ -20,10 +20,11 @@ pub loop-i-again : need.loop-i-again
 loop-i-again g c =
     let rules = g .S·Seal .rules (c .args .seal .now) in
     let rs = g .C·Card .records (c .args .card .now) in
-    let lt : c .loop-i .i < length rs = omega arith in
-    (search needs,
+    let lt : c .loop-i .i < length rs = omega arith in (
+      search needs,
       half-put rules rs _ _ (c .loop-i .i) (c .dummy .result .block .0) (c .to-bytes-body .result) _ _ (c .dummy .result .value) (c .loop-i .inv .1) lt
-      (c .to-bytes-body .ensures .laid-out) (c .dummy .ensures .0) (c .dummy .ensures .1) (c .in-Continue-seal .ensures tt) (c .in-Continue-put .ensures tt))
+          (c .to-bytes-body .ensures .laid-out) (c .dummy .ensures .0) (c .dummy .ensures .1) (c .in-Continue-seal .ensures tt) (c .in-Continue-put .ensures tt),
+    )
 
 pub returns : need.returns
 returns g c =

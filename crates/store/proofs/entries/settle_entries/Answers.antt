@@ -33,7 +33,7 @@ returns-then-is-err c =
     record {
       fit = going-wrong (file-blocks file) (c .args .count) (entries file) (c .loop-i .i) (c .loop-i .from) (c .in-Some .block .0) (c .in-Some .place .0) _ here (c .loop-i .inv)
           (unsettled-misfit (file-blocks file) (c .args .count) (entries file) (c .loop-i .i) (c .loop-i .from) (c .in-Some .block .0) (c .in-Some .place .0) _ _ (no .0) (c .loop-i .inv)
-            (with-answer _ _ _ _ (no .1) (c .settle .ensures)));
+          (with-answer _ _ _ _ (no .1) (c .settle .ensures)));
       places = λ h. absurd (false≢true h);
     }
 

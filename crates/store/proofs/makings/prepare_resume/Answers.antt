@@ -68,4 +68,4 @@ returns-in-Break-check-counters g c =
     let p = err-from-errBy (c .from-residual-in-Break-check-counters .result) (c .from-residual-in-Break-check-counters .ensures .1) in
     shut-so rules card file (c .from-residual-in-Break-check-counters .result) (p .0) (c .in-Break-check-counters .field-0 .0) (p .1) (p .2)
     (by-counters rules card file (c .in-Some .file .bytes .now) _ _ _ _ _ (c .in-Some .ensures tt) (c .blocks-2 .ensures) (c .count-count .ensures) (c .in-Continue-check-sizes .ensures tt)
-      (c .if-count .left) (c .count .ensures) (c .if-not-settle-entries .ensures tt .fit) (c .last .ensures) (c .in-Break-check-counters .ensures tt))
+    (c .if-count .left) (c .count .ensures) (c .if-not-settle-entries .ensures tt .fit) (c .last .ensures) (c .in-Break-check-counters .ensures tt))
