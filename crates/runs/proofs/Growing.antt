@@ -62,6 +62,10 @@ face-after-beat rules (Shut r card tape) c = refl
 
 -- ---- one call more
 
+-- what a push adds, as it is told
+pub pushed : {X Y : Type 0} (f : X → Y) (xs ys : List X) (x : X) (y : Y) → ys ≡ xs ++ x ∷ [] → f x ≡ y → map f ys ≡ map f xs ++ y ∷ []
+pushed f xs ys x y e h = ap (map f) e ∙ (map-push f xs x ∙ ap (λ z. map f xs ++ z ∷ []) h)
+
 answers-more : (cs : List Call) (given : List Answer) (c : Call) (a : Answer) → length cs ≡ length given
     → answers-told (cs ++ c ∷ []) (given ++ a ∷ []) ≡ answers-told cs given ++ told-seen c a ∷ []
 answers-more [] [] c a l = refl
