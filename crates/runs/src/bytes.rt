@@ -5,7 +5,7 @@ ghost use Rattle.std.specs.shelf.Lists.{All};
 use crate::calls::Making;
 
 /// A making's map file is of bytes, which the law of runs asks.
-pub fn of_bytes(making: &Making)
+pub(crate) fn of_bytes(making: &Making)
     ensures { λ _. ⌜ Of-bytes (making-told (now (making .entry))) ⌝ }
 {
     if let Making::Resume(file) = making {

@@ -24,7 +24,7 @@ use store::state::Store;
 use tape::tape::Tape;
 
 /// A granted making's sealings, on a card of so many places.
-pub fn note_making<C: Card, S: Seal, T: Tape>(
+pub(crate) fn note_making<C: Card, S: Seal, T: Tape>(
     heap: Global,
     store: &Store<C, S, T>,
     making: &Making,
@@ -91,7 +91,7 @@ fn note_beat<C: Card, S: Seal, T: Tape>(
 }
 
 /// Makes one call, and adds what it shows to the transcript.
-pub fn note_call<C: Card, S: Seal, T: Tape>(
+pub(crate) fn note_call<C: Card, S: Seal, T: Tape>(
     heap: Global,
     store: &mut Store<C, S, T>,
     call: &Call,

@@ -11,7 +11,7 @@ use engine::records::clear_at;
 use layout::names::Place;
 
 /// 2 and 3: whether so many blocks go on a card of so many places.
-pub fn check_sizes(blocks: u32, count: u32) -> Result<(), StoreFault>
+pub(crate) fn check_sizes(blocks: u32, count: u32) -> Result<(), StoreFault>
     ensures { λ r. ⌜ told store-denial r ≡ size-check blocks count ⌝ }
 {
     if blocks == 0 || blocks > 512 {
@@ -24,7 +24,7 @@ pub fn check_sizes(blocks: u32, count: u32) -> Result<(), StoreFault>
 }
 
 /// 5: whether every clear counter on the card is at most the file's last counter.
-pub fn check_counters<C: Card>(card: &C, last: u32) -> Result<(), Denial>
+pub(crate) fn check_counters<C: Card>(card: &C, last: u32) -> Result<(), Denial>
     ensures { λ r. ⌜ by-reason r ≡ counter-check (above last 0 (C·Card .records (now (card .entry)))) ⌝ }
 {
     for i in 0..card.count() {

@@ -11,7 +11,7 @@ use layout::names::Place;
 use seal::seal::Seal;
 
 /// Seals a dummy at each place, under the counters from 1 on.
-pub fn seal_dummies<C: Card, S: Seal>(card: &mut C, seal: &S) -> Result<(), Denial>
+pub(crate) fn seal_dummies<C: Card, S: Seal>(card: &mut C, seal: &S) -> Result<(), Denial>
     ensures granted { λ r. ⌜ isOk r ≡ true ⌝ }
     ensures card { λ _. ⌜ C·Card .records (now (card .exit)) ≡ dummies (S·Seal .rules (now (seal .entry))) 0 (C·Card .records (now (card .entry))) ⌝ }
 {

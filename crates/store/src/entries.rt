@@ -24,7 +24,7 @@ use seal::seal::Seal;
 use tables::positions::table::PositionMap;
 
 /// 4: puts the listed blocks at the listed places of an empty map, and says whether all of them fit.
-pub fn settle_entries(map: &mut PositionMap, file: &MapFile<'_>, count: u32) -> bool
+pub(crate) fn settle_entries(map: &mut PositionMap, file: &MapFile<'_>, count: u32) -> bool
     requires { ⌜ placed (vec-items (now map .places)) ≡ replicate (file-blocks (now (now file .bytes))) None ⌝ }
     ensures fit { λ r. ⌜ r ≡ entries-fit (file-blocks (now (now (file .entry) .bytes))) count 0 [] (entries (now (now (file .entry) .bytes))) ⌝ }
     ensures places { λ r. ⌜ (r ≡ true → placed (vec-items (now (map .exit) .places)) ≡ settled (replicate (file-blocks (now (now (file .entry) .bytes))) None) (entries (now (now (file .entry) .bytes)))) ⌝ }
@@ -68,7 +68,7 @@ fn check_entry<C: Card, S: Seal>(
 }
 
 /// 6 and 7, entry by entry in file order.
-pub fn check_entries<C: Card, S: Seal>(card: &C, seal: &S, file: &MapFile<'_>) -> Result<(), Denial>
+pub(crate) fn check_entries<C: Card, S: Seal>(card: &C, seal: &S, file: &MapFile<'_>) -> Result<(), Denial>
     requires { ⌜ entries-fit (file-blocks (now (now file .bytes))) (length (C·Card .records (now card))) 0 [] (entries (now (now file .bytes))) ≡ true ⌝ }
     ensures { λ r. ⌜ by-reason r ≡ opening-check (entries-open (S·Seal .rules (now (seal .entry))) (C·Card .records (now (card .entry))) (entries (now (now (file .entry) .bytes)))) ⌝ }
 {
