@@ -68,7 +68,11 @@ fn check_entry<C: Card, S: Seal>(
 }
 
 /// 6 and 7, entry by entry in file order.
-pub(crate) fn check_entries<C: Card, S: Seal>(card: &C, seal: &S, file: &MapFile<'_>) -> Result<(), Denial>
+pub(crate) fn check_entries<C: Card, S: Seal>(
+    card: &C,
+    seal: &S,
+    file: &MapFile<'_>,
+) -> Result<(), Denial>
     requires { ⌜ entries-fit (file-blocks (now (now file .bytes))) (length (C·Card .records (now card))) 0 [] (entries (now (now file .bytes))) ≡ true ⌝ }
     ensures { λ r. ⌜ by-reason r ≡ opening-check (entries-open (S·Seal .rules (now (seal .entry))) (C·Card .records (now (card .entry))) (entries (now (now (file .entry) .bytes)))) ⌝ }
 {
