@@ -1,4 +1,6 @@
 //! Cards: where the records lie. One trait with its meaning, and the kinds of card.
+#![tactic(auto)]
+
 pub mod byte;
 pub mod card;
 pub mod fault;

@@ -1,4 +1,6 @@
 //! The copier: what two copies of a card tell, and a picture of what they tell of two days.
+#![tactic(auto)]
+
 mod changes;
 mod days;
 mod files;

@@ -1,4 +1,6 @@
 //! What a denial tells: its number, its layer and, for some, a place.
+#![tactic(auto)]
+
 ghost use Rattle.std.specs.Prelude.{◌≡◌};
 ghost use Rattle.std.specs.Option.{option_map};
 ghost use Rattle.denial.specs.Denials.{Denial, place_number};

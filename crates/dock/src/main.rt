@@ -1,4 +1,6 @@
 //! The dock: a hiding store on card files, driven by a script or through two days of bookings.
+#![tactic(auto)]
+
 mod booked;
 mod days;
 mod ends;

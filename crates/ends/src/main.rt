@@ -1,4 +1,6 @@
 //! Bookings on two cards at once: sealed at drawn places, opened again, and denied where they must be.
+#![tactic(auto)]
+
 mod bookings;
 mod desk;
 mod drawing;

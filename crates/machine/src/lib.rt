@@ -1,4 +1,6 @@
 //! The hiding machine and the law of its runs: definitions in specs/, proofs in proofs/.
+#![tactic(auto)]
+
 ghost use Rattle.machine.specs.Law.{Law};
 ghost use Rattle.machine.specs.Worked.{Worked, WorkedIsARun};
 ghost use Rattle.std.specs.Prelude.{◌≡◌};

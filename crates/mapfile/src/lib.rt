@@ -1,3 +1,5 @@
 //! The map file: what a store saves, and what a store is resumed from.
+#![tactic(auto)]
+
 pub mod encode;
 pub mod file;

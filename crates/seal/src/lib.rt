@@ -1,4 +1,6 @@
 //! Seals: what turns a body into a record and back. One trait with its laws, and the kinds of seal.
+#![tactic(auto)]
+
 pub mod bench;
 pub mod fault;
 mod scheme;

@@ -1,4 +1,6 @@
 //! Trials: makings and calls at their limits, and each denial of the store, on cards in memory under the bench seal.
+#![tactic(auto)]
+
 mod calls;
 mod makings;
 mod trial;

@@ -1,4 +1,6 @@
 //! Holds the cipher to published vectors, one a line of the input.
+#![tactic(auto)]
+
 mod hex;
 mod published;
 
