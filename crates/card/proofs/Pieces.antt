@@ -7,21 +7,6 @@ use Rattle.layout.specs.Numbers.{Bytes}
 use Rattle.card.specs.Cards.{most}
 use Rattle.card.specs.Kinds.{pieces, byte_count, byte_records, byte_rest}
 
-pub length_pieces : (n : ℕ) (s : Bytes) → length (pieces n s) ≡ n
-unfolding pieces
-length_pieces zero s = refl
-length_pieces (suc n) s = ap suc (length_pieces n (drop 64 s))
-
--- the piece at p begins at byte p * 64
-pub getD_pieces : (n p a : ℕ) (s : Bytes) → p < n → a ≡ p * 64 → get_or (pieces n s) p [] ≡ take 64 (drop a s)
-unfolding pieces
-getD_pieces zero p a s h e = absurd (omega arith)
-getD_pieces (suc n) zero a s h e = ap (λ (k : ℕ). take 64 (drop k s)) (sym e)
-getD_pieces (suc n) (suc p) a s h e =
-    let b : 64 + p * 64 ≡ a = omega arith in
-    getD_pieces n p (p * 64) (drop 64 s) (omega arith) refl
-    ∙ ap (take 64) (drop-drop (p * 64) 64 s ∙ ap (λ (k : ℕ). drop k s) b)
-
 -- bytes written behind the first 64 leave these, and are written further on in the rest
 drop_write : (b : ℕ) (s r : Bytes) → 64 + b ≤ length s → drop 64 (put_mid (64 + b) 64 s r) ≡ put_mid b 64 (drop 64 s) r
 drop_write b s r h =
@@ -64,14 +49,3 @@ pub rest_write : (p : ℕ) (s r : Bytes) → p < byte_count s → length r ≡ 6
 rest_write p s r h k =
     ap (λ (n : ℕ). drop (64 * min (n / 64) most) (put_mid (p * 64) 64 s r)) (length_write (p * 64) s r (omega arith) k)
     ∙ drop-put_mid (p * 64) 64 s r (64 * byte_count s) (omega arith) (omega arith) k
-
--- bytes hold no more records than a card may have
-pub bytes_few : (s : Bytes) → length (byte_records s) ≤ most
-bytes_few s = omega (arith, length_pieces (byte_count s) s)
-
--- and each is whole
-pub bytes_whole : (s : Bytes) (p : ℕ) → p < length (byte_records s) → length (get_or (byte_records s) p []) ≡ 64
-bytes_whole s p h =
-    let n = length_pieces (byte_count s) s in
-    let l : 64 ≤ length (drop (p * 64) s) = simp length-drop (omega arith) in
-    ap length (getD_pieces (byte_count s) p (p * 64) s (omega arith) refl) ∙ length-take-le 64 (drop (p * 64) s) l

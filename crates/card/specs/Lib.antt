@@ -5,3 +5,4 @@ pub mod Layers
 pub mod Weaving
 pub mod Through
 pub mod Windows
+pub mod Pieces

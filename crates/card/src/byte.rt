@@ -4,6 +4,7 @@ ghost use Rattle.denial.specs.Denials.{told};
 ghost use Rattle.card.specs.Faults.{card_denial};
 ghost use Rattle.card.specs.Cards.{put_of};
 ghost use Rattle.card.specs.Kinds.{byte_records, byte_rest};
+ghost use Rattle.card.specs.Pieces.{bytes_few, bytes_whole};
 
 use crate::card::Card;
 use crate::fault::CardFault;
@@ -50,6 +51,10 @@ impl<'a> ByteCard<'a> {
 
 impl Card for ByteCard<'_> {
     ghost records = { λ c. byte_records c.bytes.now };
+
+    ghost few = { λ c. bytes_few c.bytes.now };
+
+    ghost whole = { λ c. bytes_whole c.bytes.now };
 
     fn count(&self) -> u32 {
         (self.bytes.len() / RECORD_LEN).min(MOST_RECORDS as usize) as u32

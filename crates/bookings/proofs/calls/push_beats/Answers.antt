@@ -12,9 +12,9 @@ pub loop-beat-preserved : goal.loop-beat-preserved
 loop-beat-preserved c =
     let begun = map call_told (vec_items c.args.calls.now) in
     pushed call_told begun _ _ _ _ Beat c.in_ok-push.ensures.items refl c.loop-beat.invariant
-    ∙ ap (λ (more : List Call). begun ++ more) (replicate_more c.loop-beat.-beat Beat)
+    ∙ ap (λ (more : List Call). begun ++ more) (replicate_more c.loop-beat._beat Beat)
 
 pub returns : goal.returns
 returns c =
-    let e : c.loop-beat.-beat ≡ c.args.count = omega arith in
+    let e : c.loop-beat._beat ≡ c.args.count = omega arith in
     c.loop-beat.invariant ∙ ap (λ n. map call_told (vec_items c.args.calls.now) ++ replicate n Beat) e

@@ -5,4 +5,4 @@ use Rattle.bookings.proofs.calls.push_beats.Given as goal
 
 -- so many beats were added
 abbrev pub invariant-loop-beat : goal.invariant-loop-beat
-invariant-loop-beat l = map call_told (vec_items l.calls) ≡ map call_told (vec_items l.initial.calls) ++ replicate l.-beat Beat
+invariant-loop-beat l = map call_told (vec_items l.calls) ≡ map call_told (vec_items l.initial.calls) ++ replicate l._beat Beat

@@ -1,7 +1,7 @@
 use Rattle.std.proofs.Common.{◌≡◌, ℕ, ◌+◌, ◌-◌, ◌*◌, take, drop, sym, refl, ap, ◌∙◌, arith}
 use Rattle.layout.specs.Numbers.{Bytes}
 use Rattle.card.specs.Kinds.{byte_count}
-use Rattle.card.proofs.Pieces.{length_pieces, getD_pieces}
+use Rattle.card.specs.Pieces.{length_pieces, getD_pieces}
 use Rattle.card.proofs.byte.ByteCard.read.Goals as goal
 
 pub slice_bounds-copy_from_slice-end : goal.slice_bounds-copy_from_slice-end

@@ -2,7 +2,8 @@ use Rattle.std.proofs.Common.{◌≡◌, ℕ, ◌+◌, ◌-◌, ◌*◌, ◌<◌
 use borrow.Rule.Slice.PartMut.{put_mid}
 use Rattle.layout.specs.Numbers.{Bytes}
 use Rattle.card.specs.Kinds.{byte_count, byte_records, byte_rest}
-use Rattle.card.proofs.Pieces.{length_pieces, length_write, records_write, rest_write}
+use Rattle.card.specs.Pieces.{length_pieces}
+use Rattle.card.proofs.Pieces.{length_write, records_write, rest_write}
 use Rattle.card.proofs.byte.ByteCard.write.Goals as goal
 
 pub slice_bounds-copy_from_slice-end : goal.slice_bounds-copy_from_slice-end

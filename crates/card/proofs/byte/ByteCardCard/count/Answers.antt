@@ -1,7 +1,7 @@
 use Rattle.std.proofs.Common.{arith}
 use Rattle.layout.specs.Numbers.{Bytes}
 use Rattle.card.specs.Kinds.{byte_count}
-use Rattle.card.proofs.Pieces.{length_pieces}
+use Rattle.card.specs.Pieces.{length_pieces}
 use Rattle.card.proofs.byte.ByteCardCard.count.Goals as goal
 
 pub returns : goal.returns
