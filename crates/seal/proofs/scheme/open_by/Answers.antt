@@ -1,5 +1,5 @@
 use Rattle.std.proofs.Common.{◌≡◌, ℕ, Bool, true, false, not, length, Ok, Result, sym, ap, ◌∙◌, arith}
-use Rattle.std.proofs.lemmas.Slice.Eq.{slice_eq-Decides}
+use Rattle.std.proofs.lemmas.Slice.Eq.{bytes_eq-Decides}
 use Rattle.std.proofs.lemmas.Bool.{not-true, not-false, both_ways}
 use Rattle.layout.specs.Numbers.{Bytes}
 use Rattle.layout.specs.Layouts.{counter_in, sealed_in, tag_in}
@@ -7,7 +7,6 @@ use Rattle.denial.specs.Denials.{Denial}
 use Rattle.seal.specs.Schemes.{Cover}
 use Rattle.seal.proofs.Openings.{open_tagged, open_untagged}
 use Rattle.seal.proofs.scheme.open_by.Goals as goal
-use Rattle.std.proofs.lemmas.Bool.Decides.{Decides-eqb}
 
 -- a rule at the parts of the bytes that were handed in
 at_parts : (rule : Cover) (p n : ℕ) (s got bytes r : Bytes) → got ≡ bytes → n ≡ counter_in got → s ≡ sealed_in got → r ≡ rule p n s
@@ -21,21 +20,21 @@ pub returns-then-ne : goal.returns-then-ne
 returns-then-ne g c =
     let whole = c.in-Ok.ensures.1 in
     let row = c.from_bytes-row.ensures in
-    let d = slice_eq-Decides Decides-eqb _ _ _ c.ne.ensures.1 in
+    let d = bytes_eq-Decides c.tag.result c.from_bytes-row.result.tag in
     let tag = at_parts (g.M.Scheme.tags c.args.scheme.now) c.args.at.0 _ _ _ _ _ whole.same row.counter row.sealed c.tag.ensures in
-    let no = not-true c.ne.ensures.0 (sym c.ne.ensures.2 ∙ c.if-ne.true) in
+    let no = not-true _ (sym c.ne.ensures ∙ c.if-ne.true) in
     sym (open_untagged (g.M.Scheme.covers c.args.scheme.now) (g.M.Scheme.tags c.args.scheme.now) c.args.at.0 c.args.bytes.now c.args.buffer.now
     whole.long c.if-buffer-ne52.false
-    (λ e. both_ways c.ne.ensures.0 no (d.1 (tag ∙ (e ∙ (ap tag_in (sym whole.same) ∙ sym row.tag))))))
+    (λ e. both_ways _ no (d.1 (tag ∙ (e ∙ (ap tag_in (sym whole.same) ∙ sym row.tag))))))
 
 pub returns : goal.returns
 returns g c =
     let whole = c.in-Ok.ensures.1 in
     let row = c.from_bytes-row.ensures in
-    let d = slice_eq-Decides Decides-eqb _ _ _ c.ne.ensures.1 in
+    let d = bytes_eq-Decides c.tag.result c.from_bytes-row.result.tag in
     let tag = at_parts (g.M.Scheme.tags c.args.scheme.now) c.args.at.0 _ _ _ _ _ whole.same row.counter row.sealed c.tag.ensures in
     let body = at_parts (g.M.Scheme.covers c.args.scheme.now) c.args.at.0 _ _ _ _ _ whole.same row.counter row.sealed c.cover.ensures in
-    let yes = not-false c.ne.ensures.0 (sym c.ne.ensures.2 ∙ c.if-ne.false) in
+    let yes = not-false _ (sym c.ne.ensures ∙ c.if-ne.false) in
     granted _ _ _ _ (row.counter ∙ ap counter_in whole.same) (c.copy_from_slice.ensures.after ∙ body)
     ∙ sym (open_tagged (g.M.Scheme.covers c.args.scheme.now) (g.M.Scheme.tags c.args.scheme.now) c.args.at.0 c.args.bytes.now c.args.buffer.now
     whole.long c.if-buffer-ne52.false

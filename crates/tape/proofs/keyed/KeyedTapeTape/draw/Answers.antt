@@ -3,9 +3,9 @@ use Rattle.tape.specs.Keyed.{tape_block}
 use Rattle.tape.proofs.Drawn.{draws_first}
 use Rattle.tape.proofs.keyed.KeyedTapeTape.draw.Goals as goal
 
-pub invariant-of-self : goal.invariant-of-self
+pub invariant_of-self : goal.invariant_of-self
 unfolding tape_block
-invariant-of-self c = (omega arith, (c.chacha20_words-self.ensures, tt))
+invariant_of-self c = record { within = omega arith; current = c.chacha20_words-self.ensures }
 
 pub returns-then-self-eq0 : goal.returns-then-self-eq0
 returns-then-self-eq0 c =

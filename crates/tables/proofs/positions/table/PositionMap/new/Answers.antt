@@ -5,8 +5,8 @@ use Rattle.tables.proofs.Index.{fresh_index, none_only}
 use Rattle.tables.proofs.Lone.{as_T, fresh, none_placed}
 use Rattle.tables.proofs.positions.table.PositionMap.new.Goals as goal
 
-pub invariant-of-result : goal.invariant-of-result
-invariant-of-result c =
+pub invariant_of-result : goal.invariant_of-result
+invariant_of-result c =
     let places = vec_items c.in_ok-places.places in
     let occupants = vec_items c.in_ok-occupants.occupants in
     let e = c.in_ok-places.ensures.items-if-clones-equal (none_only _ (λ x k. k)) in

@@ -14,8 +14,8 @@ pub returns-then-is_some : goal.returns-then-is_some
 returns-then-is_some c =
     settle_occupied (placed (vec_items c.args.self.now.places)) c.args.block.0 c.args.place.0 c.occupant.result (simp length-map (search rules)) c.occupant.ensures c.if-is_some.ensures
 
-pub invariant-of-self-2 : goal.invariant-of-self-2
-invariant-of-self-2 c =
+pub invariant_of-self-2 : goal.invariant_of-self-2
+invariant_of-self-2 c =
     let places = vec_items c.args.self.now.places in
     let none = vacant c.occupant.result (placed places) c.args.place.0 c.occupant.ensures c.if-is_some.ensures in
     let unheld = free 0 (placed places) c.args.place.0 none in
