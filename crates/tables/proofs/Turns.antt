@@ -1,5 +1,5 @@
 -- Look-ups in the waiting list and the position map, as loops make them.
-use Rattle.std.proofs.Common.{◌≡◌, ℕ, zero, suc, ◌+◌, ◌<◌, ◌≤◌, Bool, true, false, cond, eqb, List, [], ◌∷◌, ◌++◌, map, length, get_or, drop, set, IfSome, Some, None, Option, sym, refl, ap, ◌∙◌, subst, add-zero, add-suc, add-one, arith, Bor}
+use Rattle.std.proofs.Common.{◌≡◌, ℕ, zero, suc, ◌+◌, ◌<◌, ◌≤◌, Bool, true, false, cond, eqb, List, [], ◌∷◌, ◌++◌, map, length, get_or, drop, set, IfSome, Some, None, Option, sym, refl, ap, ◌∙◌, subst, add-zero, add-suc, add-one, arith, MutBor}
 use Rattle.std.proofs.lemmas.List.{at_drop_more, at_drop_all, drop-map, get_or-map}
 use Rattle.std.proofs.lemmas.Bool.{cond-true, cond-false, eq-eqb, ne_eqb, eqb-true}
 use Rattle.layout.specs.declared.body.Body.{Body}
@@ -112,6 +112,6 @@ unaltered j (w ∷ ws) b v e =
     (elim (eqb w.0 b) as (λ t. cond t (Some j) (turn_from (suc j) ws b) ≡ None → cond t ((b, v) ∷ ws) (w ∷ altered ws b v) ≡ w ∷ ws)
     [ true ↦ (λ h. absurd (let z : ◌≡◌ {A = ℕ} 0 1 = cc in omega arith)) | false ↦ (λ h. ap (λ z. w ∷ z) (unaltered (suc j) ws b v h)) ]) e
 
-pub named_at : (xs : List Body) (i : ℕ) (b : Block) (r : Option (Bor Body)) → i < length xs → (get_or (waited xs) i (0, [])).0 ≡ b.0 → IfSome r (λ x. x.now ≡ get_or xs i x.now) → IfSome r (λ x. x.now.block ≡ b)
+pub named_at : (xs : List Body) (i : ℕ) (b : Block) (r : Option (MutBor Body)) → i < length xs → (get_or (waited xs) i (0, [])).0 ≡ b.0 → IfSome r (λ x. x.now ≡ get_or xs i x.now) → IfSome r (λ x. x.now.block ≡ b)
 named_at xs i b None h e f = tt
 named_at xs i b (Some x) h e f = ap (λ s. s.block) f ∙ ap (λ n. record { 0 = n }) (ap (λ p. p.0) (sym (get_or-map entry_of xs i x.now (0, []) h)) ∙ e)

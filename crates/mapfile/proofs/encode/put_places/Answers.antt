@@ -8,7 +8,7 @@ use Rattle.mapfile.specs.Encodes.{put_at}
 use Rattle.mapfile.proofs.Landings.{room, one_more, places_past, places_more}
 use Rattle.mapfile.proofs.Puts.{put_none, put_number_more}
 use Rattle.mapfile.proofs.encode.put_places.Goals as goal
-use Rattle.mapfile.proofs.encode.put_places.Goals.{in-Some, in-default}
+use Rattle.mapfile.proofs.encode.put_places.Goals.{in-Some, in_default}
 
 pub loop-b-init : goal.loop-b-init
 loop-b-init c = (omega arith, put_none c.args.buffer.now c.args.from)
@@ -49,7 +49,7 @@ loop-b-preserved c =
                 ∙ (put_number_more old c.loop-b.buffer from c.loop-b.at p (landed_places (take b places)) (omega arith) (omega arith) c.loop-b.invariant.1
                 ∙ ap so_far (sym (places_more b p places h l)))),
           ))
-      | in-default w ↦ (let l = sym w.in-default.ensures in
+      | in_default w ↦ (let l = sym w.in_default.ensures in
           let e = places_past b places h l in
           let k = ap length e in
           (omega arith, w.buffer-is ∙ (c.loop-b.invariant.1 ∙ ap so_far (sym e))))

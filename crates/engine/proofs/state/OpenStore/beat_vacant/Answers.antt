@@ -5,12 +5,12 @@ use Rattle.engine.specs.View.{machine}
 use Rattle.engine.proofs.Beats.{nothing_first, something_first, settles, beat_idle, beat_landed}
 use Rattle.engine.proofs.state.OpenStore.beat_vacant.Goals as goal
 
-pub returns-in-default : goal.returns-in-default
-returns-in-default g c =
+pub returns-in_default : goal.returns-in_default
+returns-in_default g c =
     let m = machine g.C.Card.records g.T.Tape.words c.args.self.now in
     record {
       step = beat_idle (g.S.Seal.rules c.args.self.now.seal) m _ c.args.place.0 c.dummy.result.block.0 c.dummy.result.value c.seal_at.ensures.step
-          c.dummy.ensures.0 c.dummy.ensures.1 (nothing_first m.waiting c.in-default.ensures);
+          c.dummy.ensures.0 c.dummy.ensures.1 (nothing_first m.waiting c.in_default.ensures);
       seal = c.seal_at.ensures.seal;
     }
 

@@ -29,7 +29,7 @@ returns-then-not-join g c =
     let m = machine g.C.Card.records g.T.Tape.words c.args.self.now in
     let v = filled_some c.args.value.now c.in-Some.value c.in-Some.ensures in
     record {
-      step = write_full m c.args.block.0 c.args.value.now _ (omega arith) v.0 (none_is _ c.in-default-slot_of.ensures.finds)
+      step = write_full m c.args.block.0 c.args.value.now _ (omega arith) v.0 (none_is _ c.in_default-slot_of.ensures.finds)
           (joins _ _ c.args.block.0 _ _ _ c.slot_of.follows.holds-at-none v.1 c.if-not-join.ensures);
       seal = refl;
     }
@@ -39,7 +39,7 @@ returns g c =
     let m = machine g.C.Card.records g.T.Tape.words c.args.self.now in
     let v = filled_some c.args.value.now c.in-Some.value c.in-Some.ensures in
     record {
-      step = write_joined m c.args.block.0 c.args.value.now _ (omega arith) v.0 (none_is _ c.in-default-slot_of.ensures.finds)
+      step = write_joined m c.args.block.0 c.args.value.now _ (omega arith) v.0 (none_is _ c.in_default-slot_of.ensures.finds)
           (joins _ _ c.args.block.0 _ _ _ c.slot_of.follows.holds-at-none v.1 c.if-not-join.ensures);
       seal = refl;
     }

@@ -9,9 +9,13 @@ pub invariant_of-result : goal.invariant_of-result
 invariant_of-result c =
     let places = vec_items c.in_ok-places.places in
     let occupants = vec_items c.in_ok-occupants.occupants in
-    let e = c.in_ok-places.ensures.items-if-clones-equal (none_only _ (λ x k. k)) in
-    let f = c.in_ok-occupants.ensures.items-if-clones-equal (none_only _ (λ x k. k)) in
-    (search rules, (as_T _ (ap (λ z. apart (placed z)) e ∙ fresh c.args.blocks), (fresh_index occupants places 1024 c.args.blocks f e, tt)))
+    let e = c.in_ok-places.ensures.items_if_clones_equal (none_only _ (λ x k. k)) in
+    let f = c.in_ok-occupants.ensures.items_if_clones_equal (none_only _ (λ x k. k)) in
+    record {
+      few = search rules;
+      lone = as_T _ (ap (λ z. apart (placed z)) e ∙ fresh c.args.blocks);
+      agree = fresh_index occupants places 1024 c.args.blocks f e;
+    }
 
 pub returns : goal.returns
-returns c = ap placed (c.in_ok-places.ensures.items-if-clones-equal (none_only _ (λ x k. k))) ∙ none_placed c.args.blocks
+returns c = ap placed (c.in_ok-places.ensures.items_if_clones_equal (none_only _ (λ x k. k))) ∙ none_placed c.args.blocks

@@ -3,7 +3,7 @@ use Rattle.machine.specs.Machine.{occupant}
 use Rattle.tables.specs.Views.{placed}
 use Rattle.tables.proofs.Turns.{held_here, held_later, held_past, held_never}
 use Rattle.tables.proofs.positions.table.PositionMap.scan.Goals as goal
-use Rattle.tables.proofs.positions.table.PositionMap.scan.Goals.{in-Some+else-p-place, in-default}
+use Rattle.tables.proofs.positions.table.PositionMap.scan.Goals.{in-Some+else-p-place, in_default}
 
 pub returns-then-p-place : goal.returns-then-p-place
 returns-then-p-place c =
@@ -14,7 +14,7 @@ pub loop-i-preserved : goal.loop-i-preserved
 loop-i-preserved c =
     elim c.match-entry.branch [
       | in-Some+else-p-place w ↦ held_later _ _ _ None w.in-Some.p c.loop-i-test.true w.in-Some.is w.if-p-place.false c.loop-i.invariant
-      | in-default w ↦ held_past _ _ _ None c.loop-i-test.true w.in-default.is c.loop-i.invariant
+      | in_default w ↦ held_past _ _ _ None c.loop-i-test.true w.in_default.is c.loop-i.invariant
     ]
 
 pub returns : goal.returns

@@ -19,17 +19,13 @@ invariant_of-self-2 c =
     let places = vec_items c.args.self.now.places in
     let none = vacant c.occupant.result (placed places) c.args.place.0 c.occupant.ensures c.if-is_some.ensures in
     let unheld = free 0 (placed places) c.args.place.0 none in
-    let alone = of_T (apart (placed places)) c.args.self.now.lone in (
-      c.args.self.now.few,
-      (
-        as_T _ (ap apart (map-set place_of places c.args.block.0 (Some c.args.place)) ∙ still (placed places) c.args.block.0 c.args.place.0 unheld alone),
-        (
-          settled_index (vec_items c.args.self.now.occupants) (vec_items c.note.new.occupants) places c.args.block c.args.place c.index.result.now
-              c.args.self.now.agree alone unheld (search rules) c.index.ensures c.note.ensures (vec_items c.note-2.new.occupants) c.note-2.ensures,
-          tt,
-        ),
-      ),
-    )
+    let alone = of_T (apart (placed places)) c.args.self.now.lone in
+    record {
+      few = c.args.self.now.few;
+      lone = as_T _ (ap apart (map-set place_of places c.args.block.0 (Some c.args.place)) ∙ still (placed places) c.args.block.0 c.args.place.0 unheld alone);
+      agree = settled_index (vec_items c.args.self.now.occupants) (vec_items c.note.new.occupants) places c.args.block c.args.place c.index.result.now
+          c.args.self.now.agree alone unheld (search rules) c.index.ensures c.note.ensures (vec_items c.note-2.new.occupants) c.note-2.ensures;
+    }
 
 pub returns : goal.returns
 returns c =

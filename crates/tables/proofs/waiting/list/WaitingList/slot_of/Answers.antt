@@ -9,11 +9,12 @@ use Rattle.tables.proofs.waiting.list.WaitingList.slot_of.Goals as goal
 
 pub returns-in_err-i : goal.returns-in_err-i
 returns-in_err-i c = (
-  (sym (ap name_of c.from-residual.ensures), λ w e. sym (unaltered 0 (waited (vec_items c.args.self.now.slots)) c.args.block.0 w.value (sym c.in_err-i.ensures)), refl),
-  (
-    subst (λ (r : Option (MutBor Body)). IfSome r (λ x. x.now.block ≡ c.args.block)) (sym c.from-residual.ensures) tt,
-    ap is_some c.from-residual.ensures ∙ ap is_some c.in_err-i.ensures,
-  ),
+  (sym (ap name_of c.from_residual.ensures), λ w e. sym (unaltered 0 (waited (vec_items c.args.self.now.slots)) c.args.block.0 w.value (sym c.in_err-i.ensures)), refl),
+  record {
+    follows = tt;
+    named = subst (λ (r : Option (MutBor Body)). IfSome r (λ x. x.now.block ≡ c.args.block)) (sym c.from_residual.ensures) tt;
+    finds = ap is_some c.from_residual.ensures ∙ ap is_some c.in_err-i.ensures;
+  },
 )
 
 pub returns : goal.returns
@@ -27,8 +28,9 @@ returns c =
         λ w e. map-set entry_of items c.in_ok-i.i w ∙ (ap (λ n. set (waited items) c.in_ok-i.i (n.0, w.value)) e ∙ sym (f.change w.value)),
         ap (λ q. record { slots = c.args.self.now.slots; room = q }) (le_prop _ _),
       ),
-      (
-        named_at items c.in_ok-i.i c.args.block c.get_mut.result lt f.names item.1,
-        item.2 lt ∙ ap is_some c.in_ok-i.ensures,
-      ),
+      record {
+        follows = tt;
+        named = named_at items c.in_ok-i.i c.args.block c.get_mut.result lt f.names item.1;
+        finds = item.2 lt ∙ ap is_some c.in_ok-i.ensures;
+      },
     )
