@@ -110,8 +110,8 @@ impl<C: Card, S: Seal, T: Tape> OpenStore<C, S, T> {
 
     /// Lands the first block in turn at a vacant place, or seals a dummy there.
     fn beat_vacant(&mut self, place: Place) -> Result<Beat, Denial>
-        requires last_bound { (self.old.last < 4294967295) × (place.0 < length (C.Card.records self.old.card)) }
-        requires place_value { occupant (placed self.old.map.places.items) place.0 ≡ None }
+        requires in_range { (self.old.last < 4294967295) × (place.0 < length (C.Card.records self.old.card)) }
+        requires vacant { occupant (placed self.old.map.places.items) place.0 ≡ None }
         ensures step { outcome C.Card.records T.Tape.words (answer_by beat_told result) [] self.new ≡ vacant_beat (S.Seal.rules self.old.seal) (machine C.Card.records T.Tape.words self.old) place.0 (waited self.old.waiting.slots.items) }
         ensures seal { self.new.seal ≡ self.old.seal }
     {

@@ -22,7 +22,7 @@ returns-in_err-check_entry g c =
     let file = c.args.file.now.bytes.now in
     let i = c.loop-i.i in
     let here = entries_more file i (omega arith) ∙ ap (λ e. e ∷ drop (i + 1) (entries file)) (sym (entry_is file i c.in-Some.block c.in-Some.place c.in-Some.ensures.the_entry (omega arith))) in
-    let p = err_from_is_err_and c.from-residual.result c.from-residual.ensures.1 in
+    let p = err_from_is_err_and c.from_residual.result c.from_residual.ensures.1 in
     ap by_reason p.1 ∙ (ap (λ d. Err (reason_of d)) p.2
     ∙ entry_fails (g.S.Seal.rules c.args.seal.now) (g.C.Card.records c.args.card.now) (entries file) i c.in-Some.block.0 c.in-Some.place.0 _ here c.loop-i.invariant c.in_err-check_entry.ensures)
 

@@ -66,8 +66,8 @@ returns-in_err-check_sizes g c =
     let rules = g.S.Seal.rules c.args.seal.now in
     let card = g.C.Card.records c.args.card.now in
     let file = c.args.file.now in
-    let p = err_from_is_err_and c.from-residual.result c.from-residual.ensures.1 in
-    shut_so rules card file c.from-residual.result p.0 (ByStore c.in_err-check_sizes.field-0.0) p.1 p.2
+    let p = err_from_is_err_and c.from_residual.result c.from_residual.ensures.1 in
+    shut_so rules card file c.from_residual.result p.0 (ByStore c.in_err-check_sizes.field-0.0) p.1 p.2
     (by_sizes rules card file c.in-Some.file.bytes.now _ _ c.in_err-check_sizes.field-0.0 c.in-Some.ensures c.blocks-2.ensures c.count-count.ensures c.in_err-check_sizes.ensures)
 
 pub returns-in_err-map : goal.returns-in_err-map
@@ -75,8 +75,8 @@ returns-in_err-map g c =
     let rules = g.S.Seal.rules c.args.seal.now in
     let card = g.C.Card.records c.args.card.now in
     let file = c.args.file.now in
-    let p = err_from_is_err_and c.from-residual-in_err-map.result c.from-residual-in_err-map.ensures.1 in
-    memory_so rules card file c.from-residual-in_err-map.result p.0 p.1 p.2
+    let p = err_from_is_err_and c.from_residual-in_err-map.result c.from_residual-in_err-map.ensures.1 in
+    memory_so rules card file c.from_residual-in_err-map.result p.0 p.1 p.2
     (fits_so rules card file c.in-Some.file.bytes.now _ _ _ c.in-Some.ensures c.blocks-2.ensures c.count-count.ensures c.in_ok-check_sizes.ensures c.if-count.false c.count.ensures)
 
 pub returns-in_err-waiting : goal.returns-in_err-waiting
@@ -84,8 +84,8 @@ returns-in_err-waiting g c =
     let rules = g.S.Seal.rules c.args.seal.now in
     let card = g.C.Card.records c.args.card.now in
     let file = c.args.file.now in
-    let p = err_from_is_err_and c.from-residual-in_err-waiting.result c.from-residual-in_err-waiting.ensures.1 in
-    memory_so rules card file c.from-residual-in_err-waiting.result p.0 p.1 p.2
+    let p = err_from_is_err_and c.from_residual-in_err-waiting.result c.from_residual-in_err-waiting.ensures.1 in
+    memory_so rules card file c.from_residual-in_err-waiting.result p.0 p.1 p.2
     (fits_so rules card file c.in-Some.file.bytes.now _ _ _ c.in-Some.ensures c.blocks-2.ensures c.count-count.ensures c.in_ok-check_sizes.ensures c.if-count.false c.count.ensures)
 
 pub returns-in_err-check_counters : goal.returns-in_err-check_counters
@@ -93,7 +93,7 @@ returns-in_err-check_counters g c =
     let rules = g.S.Seal.rules c.args.seal.now in
     let card = g.C.Card.records c.args.card.now in
     let file = c.args.file.now in
-    let p = err_from_is_err_and c.from-residual-in_err-check_counters.result c.from-residual-in_err-check_counters.ensures.1 in
-    shut_so rules card file c.from-residual-in_err-check_counters.result p.0 c.in_err-check_counters.field-0.0 p.1 p.2
+    let p = err_from_is_err_and c.from_residual-in_err-check_counters.result c.from_residual-in_err-check_counters.ensures.1 in
+    shut_so rules card file c.from_residual-in_err-check_counters.result p.0 c.in_err-check_counters.field-0.0 p.1 p.2
     (by_counters rules card file c.in-Some.file.bytes.now _ _ _ _ _ c.in-Some.ensures c.blocks-2.ensures c.count-count.ensures c.in_ok-check_sizes.ensures
     c.if-count.false c.count.ensures c.if-not-settle_entries.ensures.fit c.last.ensures c.in_err-check_counters.ensures)

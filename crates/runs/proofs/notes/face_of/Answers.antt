@@ -9,7 +9,7 @@ pub returns : goal.returns
 returns g c =
     let s = view.store g.C.Card.records g.T.Tape.words c.args.store.now in
     let rules = g.S.Seal.rules (view.seal_of g.C.Card.records g.T.Tape.words c.args.store.now) in
-    with_items_is c.in_ok-face.face c.face.new.buffer (c.face.auto.buffer ∙ c.deref-mut.ensures.len)
+    with_items_is c.in_ok-face.face c.face.new.buffer (c.face.auto.buffer ∙ c.deref_mut.ensures.len)
     ∙ (ap (λ (d : Called). d.buffer) c.face.ensures.step
-    ∙ face_shown rules s c.deref-mut.result.now
-    (c.deref-mut.ensures.value ∙ (c.in_ok-face.ensures.items-if-clones-equal (λ y e. e) ∙ ap (λ (n : ℕ). replicate n 0) c.places.ensures)))
+    ∙ face_shown rules s c.deref_mut.result.now
+    (c.deref_mut.ensures.value ∙ (c.in_ok-face.ensures.items-if-clones-equal (λ y e. e) ∙ ap (λ (n : ℕ). replicate n 0) c.places.ensures)))

@@ -22,7 +22,7 @@ returns-in_err-note_call g c =
     let stop = stopped g.S.Seal.rules (view.seal_of g.C.Card.records g.T.Tape.words c.loop-call.store) seal
     s (view.store g.C.Card.records g.T.Tape.words c.loop-call.store) after
     calls i _ inv.0 inv.2 noted.step (take_more calls i _ h) in
-    let left = err_from_is_err_and c.from-residual-in_err-note_call.result c.from-residual-in_err-note_call.ensures.1 in
+    let left = err_from_is_err_and c.from_residual-in_err-note_call.result c.from_residual-in_err-note_call.ensures.1 in
     record {
       step = λ card e. subst (Followed notes_told (g.S.Seal.rules seal) s (first_shown s (making_told c.args.making.now) card) calls after) (sym left.1) stop;
       seal = noted.seal ∙ inv.0;

@@ -20,7 +20,7 @@ returns g c =
     let n = machine g.C.Card.records g.T.Tape.words c.seal_at-2.new.self in
     let step = c.in_ok-beat.ensures.step in
     let places : n.places ≡ m.places = ap (λ (o : Outcome). o.machine.places) step in
-    let free : occupant n.places c.args.place.0 ≡ None = ap (λ ps. occupant ps c.args.place.0) places ∙ c.requires.1 in
+    let free : occupant n.places c.args.place.0 ≡ None = ap (λ ps. occupant ps c.args.place.0) places ∙ c.requires.vacant in
     record {
       step = beat_landed (g.S.Seal.rules c.args.self.now.seal) m n _ c.args.place.0 (entry_of c.in-Some.slot) _ _
           step (something_first m.waiting (entry_of c.in-Some.slot) c.in-Some.ensures)
