@@ -3,8 +3,8 @@ use Rattle.std.proofs.Common.{◌≡◌, ℕ, Bool, false, eqb, ◌⊎◌, ◌�
 use mathlib.Core.List.{is_set}
 use mathlib.Core.Logic.{∥∥₁_elim}
 use native.Mathlib.Nat.{ℕ_set}
-use Rattle.std.specs.Cmp.Lexicographic.{Same, Apart}
-use Rattle.std.proofs.lemmas.List.{length-map}
+use Rattle.std.proofs.lemmas.Slice.Eq.{slice_eq-Decides}
+use lib.Pointwise.{pointwise}
 use Rattle.std.proofs.lemmas.Bool.{eqb-true, eq-eqb}
 use Rattle.layout.specs.declared.names.Place.{Place}
 use Rattle.denial.specs.Denials.{place_number}
@@ -82,24 +82,21 @@ other_faces t u shown-t shown-u alike differ =
 
 -- ---- what the code compares
 
-abbrev OneNumber : Place → Place → Bool → Type 0
-OneNumber p q t = Decides t (p.0 ≡ q.0)
+same_place : (p q : Place) → Decides (eqb p.0 q.0) (p ≡ q)
+same_place p q = (λ e. ap (λ n. record { 0 = n }) (eqb-true p.0 q.0 e), λ e. eq-eqb p.0 q.0 (ap place_number e))
 
-pub places_equal : (ps qs : List Place) → Same OneNumber ps qs → map place_number ps ≡ map place_number qs
-places_equal [] [] h = refl
-places_equal [] (q ∷ qs) h = absurd h
-places_equal (p ∷ ps) [] h = absurd h
-places_equal (p ∷ ps) (q ∷ qs) h = ap₂ (λ (n : ℕ) (ns : List ℕ). n ∷ ns) (h.0.0 refl) (places_equal ps qs h.1)
+numbers_tell : (ps qs : List Place) → map place_number ps ≡ map place_number qs → ps ≡ qs
+numbers_tell [] [] e = refl
+numbers_tell [] (q ∷ qs) e = let h = ap length e in absurd (omega arith)
+numbers_tell (p ∷ ps) [] e = let h = ap length e in absurd (omega arith)
+numbers_tell (p ∷ ps) (q ∷ qs) e =
+    ap₂ (λ (x : Place) (xs : List Place). x ∷ xs) (ap (λ n. record { 0 = n }) (ap (λ (ns : List ℕ). get_or ns 0 0) e)) (numbers_tell ps qs (ap (drop 1) e))
 
-apart_somewhere : (ps qs : List Place) → Apart OneNumber ps qs → map place_number ps ≡ map place_number qs → ⊥
-apart_somewhere [] qs h e = h
-apart_somewhere (p ∷ ps) [] h e = h
-apart_somewhere (p ∷ ps) (q ∷ qs) (inl h) e = true≢false (sym (h.1 (ap (λ (ns : List ℕ). get_or ns 0 0) e)))
-apart_somewhere (p ∷ ps) (q ∷ qs) (inr h) e = apart_somewhere ps qs h (ap (drop 1) e)
-
-pub places_differ : (ps qs : List Place) → (length ps ≡ length qs → ⊥) ⊎ Apart OneNumber ps qs → map place_number ps ≡ map place_number qs → ⊥
-places_differ ps qs (inl h) e = h (sym (length-map ps place_number) ∙ (ap length e ∙ length-map qs place_number))
-places_differ ps qs (inr h) e = apart_somewhere ps qs h e
+-- the test of two lists of places tells whether their numbers are the same
+pub places_tell : (ps qs : List Place) (r : Bool) → r ≡ pointwise (λ p q. eqb p.0 q.0) ps qs → Decides r (map place_number ps ≡ map place_number qs)
+places_tell ps qs r e =
+    let d = slice_eq-Decides same_place ps qs r e in
+    (λ t. ap (map place_number) (d.0 t), λ h. d.1 (numbers_tell ps qs h))
 
 -- with equal faces the counters decide, and with other faces nothing does
 module _ (o n : Option Begun) (a b : Begun) (eo : o ≡ Some a) (en : n ≡ Some b) where

@@ -22,14 +22,14 @@ fn tells<T: Drop>(
     Ok(())
 }
 
-fn opens_again_or_denies<S: Seal>(rt: &impl Abort, seal: &S) -> Result<(), Fail> {
+fn opens_again_or_denies<S: Seal>(rt: &impl Abort, name: &str, seal: &S) -> Result<(), Fail> {
     let body = [7; 52];
     let mut bytes = [0; 64];
     let mut opened = [0; 52];
     seal.seal(Place(5), 258, &body, &mut bytes)?;
-    assert_eq!(rt; &bytes[0..4], &[2, 1, 0, 0]);
-    assert_eq!(rt; seal.open(Place(5), &bytes, &mut opened)?, 258);
-    assert_eq!(rt; opened, body);
+    assert_eq!(rt; &bytes[0..4], [2, 1, 0, 0].as_slice(), "{name}");
+    assert_eq!(rt; seal.open(Place(5), &bytes, &mut opened)?, 258, "{name}");
+    assert_eq!(rt; opened, body, "{name}");
     tells(
         rt,
         seal.open(Place(6), &bytes, &mut opened),
@@ -59,6 +59,6 @@ fn opens_again_or_denies<S: Seal>(rt: &impl Abort, seal: &S) -> Result<(), Fail>
 
 #[test]
 fn both_seals_open_what_they_sealed(rt: HostRuntime) -> Result<(), Fail> {
-    opens_again_or_denies(&rt, &BenchSeal).note("the bench seal")?;
-    opens_again_or_denies(&rt, &StreetSeal::new([1; 32], [2; 16])).note("the street seal")
+    opens_again_or_denies(&rt, "the bench seal", &BenchSeal)?;
+    opens_again_or_denies(&rt, "the street seal", &StreetSeal::new([1; 32], [2; 16]))
 }

@@ -12,4 +12,4 @@ returns g c =
     with_items_is c.in_ok-face.face c.face.new.buffer (c.face.auto.buffer ∙ c.deref_mut.ensures.len)
     ∙ (ap (λ (d : Called). d.buffer) c.face.ensures.step
     ∙ face_shown rules s c.deref_mut.result.now
-    (c.deref_mut.ensures.value ∙ (c.in_ok-face.ensures.items-if-clones-equal (λ y e. e) ∙ ap (λ (n : ℕ). replicate n 0) c.places.ensures)))
+    (c.deref_mut.ensures.value ∙ (c.in_ok-face.ensures.items_if_clones_equal (λ y e. e) ∙ ap (λ (n : ℕ). replicate n 0) c.places.ensures)))

@@ -10,4 +10,4 @@ returns-in-Ok g c =
     let s = view.store g.C.Card.records g.T.Tape.words c.args.store.now in
     let rules = g.S.Seal.rules (view.seal_of g.C.Card.records g.T.Tape.words c.args.store.now) in
     into_buffer (λ xs. call rules s (Face xs)) Shown s c.in_ok-buffer.buffer (replicate c.args.size 0) c.deref_mut.result.now c.face.new.buffer
-    c.deref_mut.ensures.value (c.in_ok-buffer.ensures.items-if-clones-equal (λ y e. e)) (c.face.auto.buffer ∙ c.deref_mut.ensures.len) c.in-Ok.ensures.step
+    c.deref_mut.ensures.value (c.in_ok-buffer.ensures.items_if_clones_equal (λ y e. e)) (c.face.auto.buffer ∙ c.deref_mut.ensures.len) c.in-Ok.ensures.step
