@@ -1,7 +1,7 @@
 //! The ChaCha20 block function of RFC 8439.
 ghost use Rattle.std.specs.Prelude.{◌≡◌, ℕ, ◌+◌, ◌<◌, ◌≤◌, length};
 ghost use Rattle.std.specs.Simd.Lanes.{zip2};
-ghost use Rattle.cipher.specs.Chacha20.{add32, add_xor_roll_of, quarter_round_of, column_round_of, diagonal_round_of, double_rounds, word_at, initial_state_of, block_words, serialised as serialised-words, block};
+ghost use Rattle.cipher.specs.Chacha20.{add32, add_xor_roll_of, quarter_round_of, column_round_of, diagonal_round_of, double_rounds, word_at, initial_state_of, block_words, serialised as serialised_words, block};
 
 /// One line of the quarter round: `a += b; d ^= a; d <<<= n`.
 fn add_xor_roll(s: &mut [u32; 16], a: usize, b: usize, d: usize, n: u32)
@@ -90,7 +90,7 @@ fn sums(a: &[u32; 16], b: &[u32; 16]) -> [u32; 16]
 }
 
 fn serialised(words: &[u32; 16]) -> [u8; 64]
-    ensures { result ≡ serialised-words words.now }
+    ensures { result ≡ serialised_words words.now }
 {
     let mut out = [0; 64];
     for i in 0..16 {

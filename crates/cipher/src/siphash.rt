@@ -1,7 +1,7 @@
 //! SipHash-2-4: a tag of 64 bits for a message under a key of 16 bytes.
 ghost use Rattle.std.specs.Prelude.{◌≡◌, ℕ, ◌+◌, ◌/◌, ◌^◌, ◌<◌, ◌≤◌, length, drop, slice_index};
 ghost use Rattle.layout.specs.Numbers.{number};
-ghost use Rattle.cipher.specs.Siphash.{sip_round, compressed, compressed_words, word_at, last_word, initialised, finalised, siphash as siphash-tag};
+ghost use Rattle.cipher.specs.Siphash.{sip_round, compressed, compressed_words, word_at, last_word, initialised, finalised, siphash as siphash_tag};
 
 #[derive(Clone, Copy)]
 struct SipState {
@@ -126,7 +126,7 @@ fn last_word(message: &[u8]) -> u64
 
 /// The tag of `message` under `key`.
 pub fn siphash24(key: &[u8; 16], message: &[u8]) -> u64
-    ensures { result ≡ siphash-tag key.now message.now }
+    ensures { result ≡ siphash_tag key.now message.now }
 {
     SipState::new(key)
         .compress_words(message)

@@ -1,6 +1,6 @@
 -- The law of runs: what holds of every run, and of every two.
 use Rattle.std.specs.Prelude.{◌≡◌, ℕ, ◌+◌, ◌-◌, ◌*◌, ◌%◌, ◌<◌, ◌≤◌, cond, ◌↔◌, List, [], ◌∷◌, ◌++◌, map, length, get_or, take, drop, replicate, Some, None, Ok, ◌≢◌, slice_index_or, slice_set}
-use Rattle.std.specs.List.{range_with_len, AllByRecursion as All}
+use Rattle.std.specs.List.{range_with_len, AllByRecursion}
 use Rattle.layout.specs.Numbers.{Bytes, number}
 use Rattle.layout.specs.Layouts.{body_of, block_in, value_in, dummy_body, face}
 use Rattle.denial.specs.Denials.{Denial}
@@ -72,12 +72,12 @@ FromAbove r = (d : Denial) × (r ≡ DenialOf d) × (d.number < 15)
 -- each number is below all after it
 abbrev pub Rising : List ℕ → Type 0
 Rising [] = Unit {0}
-Rising (n ∷ ns) = All (λ k. n < k) ns × Rising ns
+Rising (n ∷ ns) = AllByRecursion (λ k. n < k) ns × Rising ns
 
 -- no number stands twice
 abbrev pub Apart : List ℕ → Type 0
 Apart [] = Unit {0}
-Apart (n ∷ ns) = All (λ k. n ≢ k) ns × Apart ns
+Apart (n ∷ ns) = AllByRecursion (λ k. n ≢ k) ns × Apart ns
 
 abbrev pub listed_blocks : Bytes → List ℕ
 listed_blocks file = map (λ (e : ℕ × ℕ). e.0) (entries file)
@@ -95,11 +95,11 @@ pub record Fits (rules : Rules) (card : List Bytes) (file : Bytes) : Type 0 wher
   pub blocks_counted : (0 < file_blocks file) × (file_blocks file ≤ 512)
   pub places_counted : (2 * file_blocks file ≤ length card) × (length card ≤ 1024) × (length card ≡ file_count file)
   pub blocks_rise : Rising (listed_blocks file)
-  pub blocks_below : All (λ b. b < file_blocks file) (listed_blocks file)
+  pub blocks_below : AllByRecursion (λ b. b < file_blocks file) (listed_blocks file)
   pub places_apart : Apart (listed_places file)
-  pub places_on_card : All (λ p. p < length card) (listed_places file)
-  pub counters_low : All (λ c. c ≤ file_last file) (face card)
-  pub places_open : All (OpensTo rules card) (entries file)
+  pub places_on_card : AllByRecursion (λ p. p < length card) (listed_places file)
+  pub counters_low : AllByRecursion (λ c. c ≤ file_last file) (face card)
+  pub places_open : AllByRecursion (OpensTo rules card) (entries file)
 
 -- the number in the two bytes from i on
 abbrev pub number_at : Bytes → ℕ → ℕ

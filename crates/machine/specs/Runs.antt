@@ -1,7 +1,7 @@
 -- Runs: a granted making and a list of calls, and what they show.
 -- All of it is told from what was called and answered and from the card's faces.
 use Rattle.std.specs.Prelude.{◌≡◌, ℕ, suc, ◌+◌, ◌<◌, Bool, true, false, cond, List, [], ◌∷◌, ◌++◌, map, length, Some, None, Ok, Err, Option, Result, ◌==◌}
-use Rattle.std.specs.List.{AllByRecursion as All}
+use Rattle.std.specs.List.{AllByRecursion}
 use Rattle.layout.specs.Numbers.{Bytes}
 use Rattle.layout.specs.Layouts.{value_in, zeros, face}
 use Rattle.denial.specs.Denials.{Denial}
@@ -121,7 +121,7 @@ held_at rules card (Resume file) b = value_at rules card (listed (entries file) 
 -- a map file is of bytes
 abbrev pub OfBytes : Making → Type 0
 OfBytes (Format n) = Unit {0}
-OfBytes (Resume file) = All (λ b. b < 256) file
+OfBytes (Resume file) = AllByRecursion (λ b. b < 256) file
 
 pub record Run : Type 0 where
   pub rules : Rules

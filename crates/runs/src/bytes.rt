@@ -1,7 +1,7 @@
 ghost use Rattle.std.specs.Prelude.{◌<◌};
 ghost use Rattle.machine.specs.Runs.{OfBytes};
 ghost use Rattle.runs.specs.Told.{making_told};
-ghost use Rattle.std.specs.List.{AllByRecursion as All};
+ghost use Rattle.std.specs.List.{AllByRecursion};
 
 use crate::calls::Making;
 
@@ -16,7 +16,7 @@ pub(crate) fn of_bytes(making: &Making)
 
 // A byte is known to fit where it is read; the loop does nothing else.
 fn all_bytes(file: &[u8])
-    ensures { All (λ b. b < 256) file.now }
+    ensures { AllByRecursion (λ b. b < 256) file.now }
 {
     for byte in file {
         let _read = *byte;

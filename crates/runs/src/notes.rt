@@ -1,6 +1,6 @@
 ghost use Rattle.std.specs.Prelude.{◌≡◌, List, map, length, IfOk, OnOk};
 ghost use Rattle.layout.specs.Numbers.{Bytes};
-ghost use Rattle.machine.specs.Makings.{call as call-of};
+ghost use Rattle.machine.specs.Makings.{call as call_of};
 ghost use Rattle.machine.specs.Runs.{format_sealings};
 ghost use Rattle.store.specs.View.{store as store_told, seal_of};
 ghost use Rattle.runs.specs.Told.{making_told, call_told, answer_told};
@@ -112,7 +112,7 @@ pub(crate) fn note_call<C: Card, S: Seal, T: Tape>(
     call: &Call,
     notes: &mut Notes,
 ) -> Result<(), AllocError>
-    ensures step { CallNoted call.now (call-of (S.Seal.rules (seal_of C.Card.records T.Tape.words store.old)) (store_told C.Card.records T.Tape.words store.old) (call_told call.now)) (store_told C.Card.records T.Tape.words store.old) (store_told C.Card.records T.Tape.words store.new) notes.old notes.new result }
+    ensures step { CallNoted call.now (call_of (S.Seal.rules (seal_of C.Card.records T.Tape.words store.old)) (store_told C.Card.records T.Tape.words store.old) (call_told call.now)) (store_told C.Card.records T.Tape.words store.old) (store_told C.Card.records T.Tape.words store.new) notes.old notes.new result }
     ensures seal { seal_of C.Card.records T.Tape.words store.new ≡ seal_of C.Card.records T.Tape.words store.old }
 {
     let answer = perform(heap, store, call)?;

@@ -1,6 +1,6 @@
 ghost use Rattle.std.specs.Prelude.{◌≡◌, [], replicate, IfOk};
-ghost use Rattle.machine.specs.Machine.{Write, Read, Beat as One-beat, Save, Face};
-ghost use Rattle.machine.specs.Makings.{call as call-of};
+ghost use Rattle.machine.specs.Machine.{Write, Read, Beat as OneBeat, Save, Face};
+ghost use Rattle.machine.specs.Makings.{call as call_of};
 ghost use Rattle.store.specs.View.{store as store_told, seal_of};
 ghost use Rattle.runs.specs.Performed.{Performed, called_told};
 ghost use Rattle.runs.specs.Told.{call_told};
@@ -19,7 +19,7 @@ pub fn perform<C: Card, S: Seal, T: Tape>(
     store: &mut Store<C, S, T>,
     call: &Call,
 ) -> Result<Answer, AllocError>
-    ensures step { Performed (call_told call.now) result (store_told C.Card.records T.Tape.words store.old) (store_told C.Card.records T.Tape.words store.new) (call-of (S.Seal.rules (seal_of C.Card.records T.Tape.words store.old)) (store_told C.Card.records T.Tape.words store.old) (call_told call.now)) }
+    ensures step { Performed (call_told call.now) result (store_told C.Card.records T.Tape.words store.old) (store_told C.Card.records T.Tape.words store.new) (call_of (S.Seal.rules (seal_of C.Card.records T.Tape.words store.old)) (store_told C.Card.records T.Tape.words store.old) (call_told call.now)) }
     ensures seal { seal_of C.Card.records T.Tape.words store.new ≡ seal_of C.Card.records T.Tape.words store.old }
 {
     match call {
@@ -37,7 +37,7 @@ fn write_value<C: Card, S: Seal, T: Tape>(
     block: Block,
     value: &[u8],
 ) -> Answer
-    ensures step { called_told [] result (store_told C.Card.records T.Tape.words store.new) ≡ call-of (S.Seal.rules (seal_of C.Card.records T.Tape.words store.old)) (store_told C.Card.records T.Tape.words store.old) (Write block.0 value.now) }
+    ensures step { called_told [] result (store_told C.Card.records T.Tape.words store.new) ≡ call_of (S.Seal.rules (seal_of C.Card.records T.Tape.words store.old)) (store_told C.Card.records T.Tape.words store.old) (Write block.0 value.now) }
     ensures seal { seal_of C.Card.records T.Tape.words store.new ≡ seal_of C.Card.records T.Tape.words store.old }
 {
     match store.write(block, value) {
@@ -48,7 +48,7 @@ fn write_value<C: Card, S: Seal, T: Tape>(
 
 /// Beats, and tells the answer.
 fn beat_once<C: Card, S: Seal, T: Tape>(store: &mut Store<C, S, T>) -> Answer
-    ensures step { called_told [] result (store_told C.Card.records T.Tape.words store.new) ≡ call-of (S.Seal.rules (seal_of C.Card.records T.Tape.words store.old)) (store_told C.Card.records T.Tape.words store.old) One-beat }
+    ensures step { called_told [] result (store_told C.Card.records T.Tape.words store.new) ≡ call_of (S.Seal.rules (seal_of C.Card.records T.Tape.words store.old)) (store_told C.Card.records T.Tape.words store.old) OneBeat }
     ensures seal { seal_of C.Card.records T.Tape.words store.new ≡ seal_of C.Card.records T.Tape.words store.old }
 {
     match store.beat() {
@@ -64,7 +64,7 @@ fn read_into<C: Card, S: Seal, T: Tape>(
     block: Block,
     size: usize,
 ) -> Result<Answer, AllocError>
-    ensures { IfOk result (λ a. called_told (replicate size 0) a (store_told C.Card.records T.Tape.words store.now) ≡ call-of (S.Seal.rules (seal_of C.Card.records T.Tape.words store.now)) (store_told C.Card.records T.Tape.words store.now) (Read block.0 (replicate size 0))) }
+    ensures { IfOk result (λ a. called_told (replicate size 0) a (store_told C.Card.records T.Tape.words store.now) ≡ call_of (S.Seal.rules (seal_of C.Card.records T.Tape.words store.now)) (store_told C.Card.records T.Tape.words store.now) (Read block.0 (replicate size 0))) }
 {
     let mut buffer = vec![in heap; 0; size]?;
     match store.read(block, &mut buffer) {
@@ -79,7 +79,7 @@ fn save_into<C: Card, S: Seal, T: Tape>(
     store: &Store<C, S, T>,
     size: usize,
 ) -> Result<Answer, AllocError>
-    ensures { IfOk result (λ a. called_told (replicate size 0) a (store_told C.Card.records T.Tape.words store.now) ≡ call-of (S.Seal.rules (seal_of C.Card.records T.Tape.words store.now)) (store_told C.Card.records T.Tape.words store.now) (Save (replicate size 0))) }
+    ensures { IfOk result (λ a. called_told (replicate size 0) a (store_told C.Card.records T.Tape.words store.now) ≡ call_of (S.Seal.rules (seal_of C.Card.records T.Tape.words store.now)) (store_told C.Card.records T.Tape.words store.now) (Save (replicate size 0))) }
 {
     let mut buffer = vec![in heap; 0; size]?;
     match store.save(&mut buffer) {
@@ -94,7 +94,7 @@ fn face_into<C: Card, S: Seal, T: Tape>(
     store: &Store<C, S, T>,
     size: usize,
 ) -> Result<Answer, AllocError>
-    ensures { IfOk result (λ a. called_told (replicate size 0) a (store_told C.Card.records T.Tape.words store.now) ≡ call-of (S.Seal.rules (seal_of C.Card.records T.Tape.words store.now)) (store_told C.Card.records T.Tape.words store.now) (Face (replicate size 0))) }
+    ensures { IfOk result (λ a. called_told (replicate size 0) a (store_told C.Card.records T.Tape.words store.now) ≡ call_of (S.Seal.rules (seal_of C.Card.records T.Tape.words store.now)) (store_told C.Card.records T.Tape.words store.now) (Face (replicate size 0))) }
 {
     let mut buffer = vec![in heap; 0u32; size]?;
     match store.face(&mut buffer) {

@@ -1,6 +1,6 @@
 ghost use Rattle.std.specs.Prelude.{◌≡◌, List, length, IfOk};
 ghost use Rattle.layout.specs.Numbers.{Bytes};
-ghost use Rattle.machine.specs.Makings.{make as make-of};
+ghost use Rattle.machine.specs.Makings.{make as make_of};
 ghost use Rattle.store.specs.Made.{MadeBy};
 ghost use Rattle.store.specs.View.{store as store_told, seal_of};
 ghost use Rattle.runs.specs.Told.{making_told};
@@ -48,7 +48,7 @@ fn make<C: Card, S: Seal, T: Tape>(
     tape: T,
     making: &Making,
 ) -> Store<C, S, T>
-    ensures made { MadeBy (store_told C.Card.records T.Tape.words result) (C.Card.records card) (T.Tape.words tape) (make-of (S.Seal.rules seal) (C.Card.records card) (T.Tape.words tape) (making_told making.now)) }
+    ensures made { MadeBy (store_told C.Card.records T.Tape.words result) (C.Card.records card) (T.Tape.words tape) (make_of (S.Seal.rules seal) (C.Card.records card) (T.Tape.words tape) (making_told making.now)) }
     ensures seal { seal_of C.Card.records T.Tape.words result ≡ seal }
 {
     match making {

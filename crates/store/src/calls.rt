@@ -1,5 +1,5 @@
 ghost use Rattle.std.specs.Prelude.{◌≡◌, ℕ, [], length, Some, None};
-ghost use Rattle.machine.specs.Machine.{Write, Read, Beat as One-beat, Save, Face, Written, Valued, Saved, Shown};
+ghost use Rattle.machine.specs.Machine.{Write, Read, Beat as OneBeat, Save, Face, Written, Valued, Saved, Shown};
 ghost use Rattle.machine.specs.Makings.{Open, Shut, call};
 ghost use Rattle.engine.specs.Steps.{answer_by, by_reason, beat_told};
 ghost use Rattle.store.specs.View.{store, seal_of, called};
@@ -37,7 +37,7 @@ impl<C: Card, S: Seal, T: Tape> Store<C, S, T> {
 
     /// Rewrites one record of the card, at a place off the tape.
     pub fn beat(&mut self) -> Result<Beat, Denial>
-        ensures step { called C.Card.records T.Tape.words (answer_by beat_told result) [] self.new ≡ call (S.Seal.rules (seal_of C.Card.records T.Tape.words self.old)) (store C.Card.records T.Tape.words self.old) One-beat }
+        ensures step { called C.Card.records T.Tape.words (answer_by beat_told result) [] self.new ≡ call (S.Seal.rules (seal_of C.Card.records T.Tape.words self.old)) (store C.Card.records T.Tape.words self.old) OneBeat }
         ensures seal { seal_of C.Card.records T.Tape.words self.new ≡ seal_of C.Card.records T.Tape.words self.old }
     {
         match self {

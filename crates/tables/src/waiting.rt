@@ -1,10 +1,10 @@
 ghost use Rattle.std.specs.Prelude.{◌≡◌, ℕ, [], length, drop, is_some, IfSome, IfOk};
 ghost use Rattle.std.specs.Borrow.{sem, follows_so};
 ghost use Rattle.std.specs.Option.{ghost_name_of as name_of, option_map};
-ghost use Rattle.layout.specs.contracts.body.Body.{the_row as body-row};
+ghost use Rattle.layout.specs.contracts.body.Body.{the_row as body_row};
 ghost use Rattle.machine.specs.Machine.{awaited, altered};
 ghost use Rattle.tables.specs.Views.{waited, entry_of, turn, first_in, join_of};
-ghost use Rattle.tables.specs.contracts.waiting.list.WaitingList.{the_row as list-row};
+ghost use Rattle.tables.specs.contracts.waiting.list.WaitingList.{the_row as list_row};
 
 use layout::body::Body;
 use layout::names::Block;
@@ -56,7 +56,7 @@ impl WaitingList {
 
     /// The slot of a block that waits, lent to be changed.
     pub fn slot_of(&mut self, block: Block) -> Option<&mut Body>
-        ensures* follows { sem 𝓛 (follows_so list-row body-row self.entry.ghost_name (name_of result) (λ w n. (w.block ≡ block → waited n.slots.items ≡ altered (waited self.old.slots.items) block.0 w.value)) (λ n. n ≡ self.old)) }
+        ensures* follows { sem 𝓛 (follows_so list_row body_row self.entry.ghost_name (name_of result) (λ w n. (w.block ≡ block → waited n.slots.items ≡ altered (waited self.old.slots.items) block.0 w.value)) (λ n. n ≡ self.old)) }
         ensures named { IfSome result (λ x. x.now.block ≡ block) }
         ensures finds { is_some result ≡ is_some (turn (waited self.old.slots.items) block.0) }
     {
