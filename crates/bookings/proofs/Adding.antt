@@ -1,5 +1,5 @@
 -- Lists that grow by pushes.
-use Rattle.std.proofs.Common.{◌≡◌, ℕ, zero, suc, ◌+◌, List, [], ◌∷◌, ◌++◌, map, take, replicate, Option, sym, refl, ap, ◌∙◌, add-zero, add-one, arith}
+use Rattle.std.proofs.Common.{◌≡◌, ℕ, zero, suc, ◌+◌, List, [], ◌∷◌, ◌++◌, map, take, replicate, Option, sym, ap, ◌∙◌, add-zero, add-one, arith}
 use Rattle.std.specs.List.{flat_map}
 use Rattle.std.proofs.lemmas.List.{append_assoc, map_push, flat_map_more}
 use Rattle.machine.specs.Machine.{Call, Read, Beat}

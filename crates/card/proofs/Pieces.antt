@@ -1,7 +1,7 @@
 -- The pieces of 64 bytes: how many, which bytes each has, and what a write to one leaves.
-use Rattle.std.proofs.Common.{◌≡◌, ℕ, zero, suc, ◌+◌, ◌*◌, ◌/◌, ◌<◌, ◌≤◌, min, List, [], ◌∷◌, ◌++◌, length, get_or, take, drop, set, sym, refl, ap, ◌∙◌, arith}
+use Rattle.std.proofs.Common.{◌≡◌, ℕ, zero, suc, ◌+◌, ◌*◌, ◌/◌, ◌<◌, ◌≤◌, min, List, ◌∷◌, ◌++◌, length, take, drop, set, sym, refl, ap, ◌∙◌, arith}
 use borrow.Rule.Slice.PartMut.{put_mid}
-use Rattle.std.proofs.lemmas.List.{length-take, length-drop, take_at, drop_at, drop-take, drop-drop, drop-append-le, length-take-le, length-append}
+use Rattle.std.proofs.lemmas.List.{length-take, length-drop, take_at, drop_at, drop-take, drop-drop, drop-append-le, length-append}
 use Rattle.std.proofs.lemmas.Slice.{take-put_mid_below, drop-put_mid}
 use Rattle.layout.specs.Numbers.{Bytes}
 use Rattle.card.specs.Cards.{most}

@@ -1,5 +1,4 @@
 -- What a card's faults tell.
-use Rattle.layout.specs.declared.names.Place.{Place}
 use Rattle.denial.specs.Denials.{Denial, place_beyond, wrong_size}
 use Rattle.denial.specs.declared.Layer.TheVariants.{Card}
 use Rattle.card.specs.declared.fault.CardFault.{CardFault}

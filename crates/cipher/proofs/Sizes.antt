@@ -1,5 +1,5 @@
 -- How long a block is, and that its words, its bytes and a tag fit their widths. Assumes nothing.
-use Rattle.std.proofs.Common.{◌≡◌, ℕ, zero, suc, ◌+◌, ◌-◌, ◌*◌, ◌/◌, ◌%◌, ◌^◌, ◌<◌, ◌≤◌, [], ◌∷◌, ◌++◌, length, get_or, take, drop, set, refl, ap, ◌∙◌, arith, lit<, length-append, length-drop, length-set}
+use Rattle.std.proofs.Common.{◌≡◌, ℕ, zero, suc, ◌-◌, ◌*◌, ◌/◌, ◌%◌, ◌^◌, ◌<◌, ◌≤◌, [], ◌∷◌, ◌++◌, length, get_or, take, drop, set, refl, ap, ◌∙◌, arith, lit<, length-append, length-drop, length-set}
 use native.Mathlib.Nat.{pow-succ'}
 use lib.Bits.{bit_xor, or_lt, xor_lt}
 use lib.Pow.{shr_le}

@@ -1,10 +1,9 @@
 -- What is put together is what is taken apart: bodies and records.
-use Rattle.std.proofs.Common.{◌≡◌, ℕ, ◌+◌, ◌*◌, ◌^◌, ◌<◌, List, [], ◌∷◌, ◌++◌, length, get_or, take, drop, sym, refl, ap, ◌∙◌, arith}
-use Rattle.std.specs.List.{AllByRecursion as All}
-use Rattle.std.proofs.lemmas.List.{length-append, length-take, length-drop, take_at, drop_at, drop-drop, take-append-drop, drop-append-le, take-append-le}
+use Rattle.std.proofs.Common.{◌≡◌, ℕ, ◌^◌, ◌<◌, ◌++◌, length, take, drop, sym, ap, ◌∙◌, arith}
+use Rattle.std.proofs.lemmas.List.{length-append, take_at, drop_at, drop-drop}
 use Rattle.layout.specs.Numbers.{Bytes, little, number}
 use Rattle.layout.specs.Layouts.{body_of, block_in, value_in, record_of, counter_in, sealed_in, tag_in, BodyApart, RecordApart}
-use Rattle.layout.proofs.Littles.{length_little, number_little, little_number}
+use Rattle.layout.proofs.Littles.{length_little, number_little}
 
 -- the number in front of the rest
 front : (n : ℕ) (rest : Bytes) → n < 2 ^ 32 → number (take 4 (little 4 n ++ rest)) ≡ n

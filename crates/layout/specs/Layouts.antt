@@ -1,5 +1,5 @@
 -- The byte layout of a body and of a record.
-use Rattle.std.specs.Prelude.{◌≡◌, ℕ, ◌^◌, ◌<◌, List, ◌++◌, map, length, take, drop, replicate}
+use Rattle.std.specs.Prelude.{◌≡◌, ℕ, List, ◌++◌, map, length, take, drop, replicate}
 use Rattle.layout.specs.Numbers.{Bytes, little, number}
 
 -- A body: a block number in 4 bytes, then a value of 48.

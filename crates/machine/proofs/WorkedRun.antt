@@ -1,5 +1,5 @@
 -- The worked run computes, and is a run.
-use Rattle.std.proofs.Common.{[], ◌∷◌, length, replicate, refl}
+use Rattle.std.proofs.Common.{[], ◌∷◌, replicate, refl}
 use Rattle.layout.specs.Layouts.{body_of, block_in, value_in, record_of, counter_in, sealed_in, tag_in}
 use Rattle.seal.specs.Schemes.{bench_cover, bench_tag}
 use Rattle.seal.specs.Schemed.{Fit, lawful}

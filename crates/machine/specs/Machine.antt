@@ -1,6 +1,6 @@
 -- The hiding machine: its state, and what each call answers and leaves.
 -- A state that no made store reaches may meet 15, 16 or 17; they are then passed on.
-use Rattle.std.specs.Prelude.{ℕ, suc, ◌+◌, ◌%◌, Bool, true, false, cond, List, [], ◌∷◌, ◌++◌, length, take, drop, Some, None, Ok, Err, Option, Result, ◌==◌, nat_le, nat_lt, slice_index_or, slice_set}
+use Rattle.std.specs.Prelude.{ℕ, suc, ◌+◌, ◌%◌, cond, List, [], ◌∷◌, ◌++◌, length, take, drop, Some, None, Ok, Err, Option, Result, ◌==◌, nat_le, nat_lt, slice_index_or, slice_set}
 use Rattle.layout.specs.Numbers.{Bytes}
 use Rattle.layout.specs.Layouts.{body_of, value_in, zeros, dummy_body, face}
 use Rattle.denial.specs.Denials.{Denial, tape_spent, place_beyond, wrong_size, wrong_tag, block_beyond, value_long, blocks_wait, buffer_length, list_full, counter_spent}

@@ -1,13 +1,13 @@
 -- Runs: a granted making and a list of calls, and what they show.
 -- All of it is told from what was called and answered and from the card's faces.
-use Rattle.std.specs.Prelude.{◌≡◌, ℕ, suc, ◌+◌, ◌<◌, Bool, true, false, cond, List, [], ◌∷◌, ◌++◌, map, length, Some, None, Ok, Err, Option, Result, ◌==◌}
+use Rattle.std.specs.Prelude.{◌≡◌, ℕ, suc, ◌+◌, ◌<◌, cond, List, [], ◌∷◌, ◌++◌, map, length, Some, None, Ok, Err, Option, Result, ◌==◌}
 use Rattle.std.specs.List.{AllByRecursion}
 use Rattle.layout.specs.Numbers.{Bytes}
 use Rattle.layout.specs.Layouts.{value_in, zeros, face}
 use Rattle.denial.specs.Denials.{Denial}
 use Rattle.seal.specs.Seals.{Rules, Lawful}
 use Rattle.machine.specs.Files.{entries}
-use Rattle.machine.specs.Machine.{Machine, Call, Write, Read, Beat, Save, Face, Deed, Reason, Answer, Written, Valued, Beaten, Saved, Shown, Denied, Outcome, opened_at, filled, step}
+use Rattle.machine.specs.Machine.{Machine, Call, Write, Read, Beat, Save, Face, Answer, Written, Valued, Beaten, Saved, Shown, Denied, Outcome, opened_at, filled, step}
 use Rattle.machine.specs.Makings.{Making, Format, Resume, Store, Open, Shut, make, handed}
 
 -- ---- transcripts

@@ -1,6 +1,5 @@
 -- A worked run on a card of four places, call by call: answer, buffer and face.
-use Rattle.std.specs.Prelude.{◌≡◌, ℕ, List, [], ◌∷◌, replicate}
-use Rattle.layout.specs.Numbers.{Bytes}
+use Rattle.std.specs.Prelude.{◌≡◌, List, [], ◌∷◌, replicate}
 use Rattle.denial.specs.Denials.{tape_spent}
 use Rattle.seal.specs.Schemes.{rules_by, bench_cover, bench_tag}
 use Rattle.seal.specs.Seals.{Rules}

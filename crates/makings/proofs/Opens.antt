@@ -1,5 +1,5 @@
 -- The loop that opens the listed places.
-use Rattle.std.proofs.Common.{◌≡◌, ℕ, ◌+◌, ◌<◌, ◌≤◌, List, [], ◌∷◌, length, drop, Some, None, Ok, Err, Option, Result, sym, refl, ap, ◌∙◌, arith}
+use Rattle.std.proofs.Common.{◌≡◌, ℕ, ◌+◌, List, [], ◌∷◌, drop, Some, None, Ok, Err, Option, Result, sym, refl, ap, ◌∙◌, arith}
 use Rattle.layout.specs.Numbers.{Bytes}
 use Rattle.seal.specs.Seals.{Rules}
 use Rattle.machine.specs.Machine.{Reason, opened_at}

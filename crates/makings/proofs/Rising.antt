@@ -1,8 +1,7 @@
 -- The entries of a map file, settled one by one on an empty map.
 use Rattle.std.proofs.Common.{◌≡◌, ℕ, zero, suc, ◌+◌, ◌<◌, ◌≤◌, Bool, true, false, cond, not, ◌&&◌, ◌||◌, eqb, ltb, leb, ◌≢◌, ◌⊎◌, List, [], ◌∷◌, length, get_or, drop, set, replicate, is_err, Some, None, Ok, Err, Option, Result, sym, refl, ap, ◌∙◌, subst, inl, inr, ⊎_elim, add-one, arith}
-use Rattle.std.proofs.lemmas.List.{length-set, get_or-set_other, get_or_past, get_or-replicate, length-replicate}
-use Rattle.std.proofs.lemmas.Bool.{and_left, and_right, and_from, cond-true, cond-false, le-leb, lt-leb, lt-ltb, le-ltb, ltb-true, ltb-false, not_from_true, not_from_false, and_parts, both_ways}
-use Rattle.layout.specs.Numbers.{Bytes}
+use Rattle.std.proofs.lemmas.List.{length-set, get_or-set_other, length-replicate}
+use Rattle.std.proofs.lemmas.Bool.{and_left, and_right, and_from, le-leb, lt-leb, lt-ltb, le-ltb, ltb-true, ltb-false, not_from_true, not_from_false, and_parts, both_ways}
 use Rattle.machine.specs.Machine.{occupant_from, occupant}
 use Rattle.machine.specs.Makings.{among, entries_fit, settled}
 use Rattle.tables.specs.Apart.{held}

@@ -1,5 +1,5 @@
 -- The checks of the makings, one by one.
-use Rattle.std.specs.Prelude.{ℕ, cond, List, Some, None, Ok, Err, Option, Result}
+use Rattle.std.specs.Prelude.{ℕ, cond, Some, None, Ok, Err, Option, Result}
 use Rattle.denial.specs.Denials.{Denial, block_count, place_count, counter_above}
 use Rattle.machine.specs.Machine.{Reason, DenialOf}
 use Rattle.machine.specs.Makings.{blocks_fit, places_fit}

@@ -1,5 +1,5 @@
 -- What a call leaves in its buffer.
-use Rattle.std.proofs.Common.{◌≡◌, ℕ, Bool, true, false, cond, eqb, ltb, leb, List, [], ◌∷◌, length, get_or, Some, None, Ok, Err, vec_items, vec_len, Option, Result, Vec, sym, refl, ap, ◌∙◌, arith}
+use Rattle.std.proofs.Common.{◌≡◌, ℕ, eqb, ltb, List, length, get_or, Some, None, Ok, Err, vec_items, vec_len, Option, Result, Vec, sym, refl, ap, ◌∙◌, arith}
 use Rattle.std.specs.Vec.{with_items}
 use Rattle.std.proofs.lemmas.List.{with_items_is}
 use Rattle.std.proofs.lemmas.Bool.{cond_both}
@@ -7,7 +7,7 @@ use Rattle.layout.specs.Numbers.{Bytes}
 use Rattle.denial.specs.Denials as table
 use Rattle.denial.specs.Denials.{block_beyond, buffer_length}
 use Rattle.seal.specs.Seals.{Rules}
-use Rattle.machine.specs.Machine.{Machine, Read, Reason, Answer, Valued, Denied, Outcome, denied, valued, opened_at, awaited, read_opened, read_landed, read_waiting, read_step}
+use Rattle.machine.specs.Machine.{Machine, Read, Reason, Answer, Valued, Denied, Outcome, denied, opened_at, awaited, read_opened, read_landed, read_waiting, read_step}
 use Rattle.machine.specs.Makings.{Store, Open, Shut, Called, call}
 
 -- a buffer of the caller's, filled by a call that began with it

@@ -1,5 +1,5 @@
 -- Two transcripts that begin alike, compared by the law.
-use Rattle.std.proofs.Common.{◌≡◌, ℕ, Bool, false, eqb, ◌⊎◌, ◌↔◌, List, [], ◌∷◌, map, length, get_or, drop, Some, None, vec_items, Decides, Option, sym, refl, ap, ◌∙◌, subst, ap₂, inl, inr, true≢false, arith}
+use Rattle.std.proofs.Common.{◌≡◌, ℕ, Bool, false, eqb, ◌↔◌, List, [], ◌∷◌, map, length, get_or, drop, Some, None, vec_items, Decides, Option, sym, refl, ap, ◌∙◌, subst, ap₂, inl, inr, true≢false, arith}
 use mathlib.Core.List.{is_set}
 use mathlib.Core.Logic.{∥∥₁_elim}
 use native.Mathlib.Nat.{ℕ_set}

@@ -1,5 +1,5 @@
 -- Makings, calls and answers of the code, as the machine has them.
-use Rattle.std.specs.Prelude.{ℕ, List, [], ◌∷◌, replicate, vec_items}
+use Rattle.std.specs.Prelude.{ℕ, List, [], replicate, vec_items}
 use Rattle.machine.specs.Machine as machine
 use Rattle.machine.specs.Makings as making
 use Rattle.machine.specs.Makings.{handed}

@@ -1,13 +1,13 @@
 -- What an opening answers, by whether the tag is the rule's.
-use Rattle.std.proofs.Common.{◌≡◌, ℕ, Bool, true, false, cond, not, ◌&&◌, eqb, ◌⊎◌, List, length, Some, None, Ok, Err, Decides, Option, Result, sym, refl, ap, ◌∙◌, inl, inr, ⊎_elim}
+use Rattle.std.proofs.Common.{◌≡◌, ℕ, false, eqb, length, Ok, Err, ap, ◌∙◌, ⊎_elim}
 use Rattle.std.specs.Str.{bytes_eq}
 use Rattle.std.proofs.lemmas.Slice.Eq.{bytes_eq-Decides}
-use Rattle.std.proofs.lemmas.Bool.{and_from, and_right, eq-eqb, cond-true, cond-false, both_ways, cases_Bool}
+use Rattle.std.proofs.lemmas.Bool.{and_from, and_right, eq-eqb, cond-true, cond-false, cases_Bool}
 use Rattle.layout.specs.Numbers.{Bytes}
 use Rattle.layout.specs.Layouts.{counter_in, sealed_in, tag_in}
-use Rattle.denial.specs.Denials.{Denial, wrong_tag}
+use Rattle.denial.specs.Denials.{wrong_tag}
 use Rattle.seal.specs.Seals.{Rules, opening, open_of}
-use Rattle.seal.specs.Schemes.{Cover, Tagging, rules_by, opened_by}
+use Rattle.seal.specs.Schemes.{Cover, Tagging, rules_by}
 
 long_enough : (rules : Rules) (p : ℕ) (bytes buffer : Bytes) → length bytes ≡ 64 → length buffer ≡ 52
     → open_of rules p bytes buffer ≡ opening p buffer (rules.opened p bytes)

@@ -1,5 +1,5 @@
 -- Seals made of a cover and a tag, and the two that there are.
-use Rattle.std.specs.Prelude.{ℕ, cond, ◌&&◌, List, [], ◌∷◌, ◌++◌, length, Some, None, Option, ◌==◌, bit_xor}
+use Rattle.std.specs.Prelude.{ℕ, cond, ◌&&◌, ◌++◌, length, Some, None, Option, ◌==◌, bit_xor}
 use Rattle.std.specs.Simd.Lanes.{zip2}
 use Rattle.std.specs.Str.{bytes_eq}
 use Rattle.layout.specs.Numbers.{Bytes, little}

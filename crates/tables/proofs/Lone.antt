@@ -1,6 +1,6 @@
 -- No two blocks have one place, from making to settling.
-use Rattle.std.proofs.Common.{◌≡◌, ℕ, zero, suc, Bool, true, false, cond, not, ◌&&◌, ◌||◌, T, eqb, List, [], ◌∷◌, set, replicate, Some, None, Option, sym, refl, ap, ◌∙◌, subst}
-use Rattle.std.proofs.lemmas.Bool.{and_parts, and_from, or_parts, or_from, not-true, not_from_false, eqb-false, eq-eqb, ne_eqb, both_ways}
+use Rattle.std.proofs.Common.{◌≡◌, ℕ, zero, suc, Bool, true, false, cond, not, ◌||◌, T, eqb, List, [], ◌∷◌, set, replicate, Some, None, Option, sym, refl, ap}
+use Rattle.std.proofs.lemmas.Bool.{and_parts, and_from, or_parts, or_from, not-true, not_from_false, eqb-false, ne_eqb, both_ways}
 use Rattle.machine.specs.Machine.{occupant_from}
 use Rattle.tables.specs.Apart.{held, apart}
 use Rattle.tables.specs.Views.{placed}

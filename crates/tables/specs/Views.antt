@@ -1,5 +1,5 @@
 -- What a position map and a waiting list hold, as the machine has them.
-use Rattle.std.specs.Prelude.{◌≡◌, ℕ, suc, Bool, cond, ltb, List, [], ◌∷◌, ◌++◌, map, length, Some, None, Ok, Err, Option, Result, ◌==◌, nat_lt, slice_set}
+use Rattle.std.specs.Prelude.{ℕ, suc, Bool, cond, ltb, List, [], ◌∷◌, ◌++◌, map, length, Some, None, Ok, Err, Option, Result, ◌==◌, nat_lt, slice_set}
 use Rattle.std.specs.Option.{option_map}
 use Rattle.layout.specs.Numbers.{Bytes}
 use Rattle.layout.specs.declared.body.Body.{Body}

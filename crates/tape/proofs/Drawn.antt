@@ -1,5 +1,5 @@
 -- The words of a keyed tape, one by one.
-use Rattle.std.proofs.Common.{◌≡◌, ℕ, zero, suc, ◌+◌, ◌-◌, ◌/◌, ◌%◌, ◌<◌, ◌≤◌, List, [], ◌∷◌, length, get_or, Ok, Err, Result, sym, refl, ap, ◌∙◌, add-one, arith}
+use Rattle.std.proofs.Common.{◌≡◌, ℕ, zero, suc, ◌+◌, ◌-◌, ◌/◌, ◌%◌, ◌<◌, List, ◌∷◌, length, get_or, Ok, Result, sym, refl, ap, ◌∙◌, add-one, arith}
 use Rattle.layout.specs.Numbers.{Bytes}
 use Rattle.denial.specs.Denials.{Denial}
 use Rattle.tape.specs.Tapes.{draw_of}

@@ -1,4 +1,3 @@
-use Rattle.std.proofs.Common.{arith}
 use Rattle.engine.proofs.Fills.{filled_is}
 use Rattle.engine.proofs.values.filled_value.Goals as goal
 

@@ -1,6 +1,5 @@
-use Rattle.std.proofs.Common.{◌≡◌, ◌<◌, length, refl, ap, ◌∙◌, arith, rules}
-use Rattle.card.specs.Cards.{put_of}
-use Rattle.makings.proofs.Halves.{half_done, length_half, half_all, half_put, put_granted_here}
+use Rattle.std.proofs.Common.{◌≡◌, ◌<◌, length, refl, ap, ◌∙◌, arith}
+use Rattle.makings.proofs.Halves.{length_half, half_all, half_put, put_granted_here}
 use Rattle.makings.proofs.dummies.seal_dummies.Goals as goal
 
 pub returns-in_err-put : goal.returns-in_err-put

@@ -1,7 +1,6 @@
-use Rattle.std.proofs.Common.{◌≡◌, ◌+◌, ◌∷◌, drop, vec_items, sym, ap, ◌∙◌, inl, inr, ⊎_elim, arith}
+use Rattle.std.proofs.Common.{◌+◌, ◌∷◌, drop, sym, ap, ◌∙◌, inl, inr, ⊎_elim, arith}
 use Rattle.std.proofs.lemmas.Bool.{false≢true}
 use Rattle.machine.specs.Files.{file_blocks, entries}
-use Rattle.tables.specs.Views.{placed}
 use Rattle.mapfile.proofs.Entries.{entry_is, entries_more, at_entries_all}
 use Rattle.makings.proofs.Rising.{going_start, going_on, going_wrong, going_all, unsettled_misfit, was_denied, was_granted, with_answer}
 use Rattle.makings.proofs.entries.settle_entries.Goals as goal

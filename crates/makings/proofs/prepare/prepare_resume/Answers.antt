@@ -1,11 +1,11 @@
-use Rattle.std.proofs.Common.{◌≡◌, ℕ, Bool, true, List, [], length, Some, Ok, Err, Result, sym, refl, ap, ◌∙◌, subst, inl, inr}
+use Rattle.std.proofs.Common.{◌≡◌, ℕ, true, List, [], length, Some, Ok, Err, Result, sym, refl, ap, ◌∙◌, subst, inl, inr}
 use Rattle.std.proofs.lemmas.Result.{err_from_is_err_and}
 use Rattle.layout.specs.Numbers.{Bytes}
 use Rattle.denial.specs.Denials.{Denial}
 use Rattle.seal.specs.Seals.{Rules}
 use Rattle.machine.specs.Files.{file_blocks, file_count, file_last, entries}
 use Rattle.machine.specs.Machine.{Reason}
-use Rattle.machine.specs.Makings.{Store, Shut, above, entries_fit, resume}
+use Rattle.machine.specs.Makings.{Shut, above, entries_fit, resume}
 use Rattle.answers.specs.Told.{store_denial, store_reason, reason_of}
 use Rattle.answers.specs.declared.denial.Denial as code
 use Rattle.answers.specs.declared.denial.Denial.TheVariants.{ByStore, NoMemory}

@@ -1,4 +1,4 @@
-use Rattle.std.proofs.Common.{◌≡◌, refl, ap}
+use Rattle.std.proofs.Common.{refl, ap}
 use Rattle.machine.specs.Makings.{Called}
 use Rattle.store.specs.View as view
 use Rattle.runs.specs.declared.notes.Notes.{Notes}

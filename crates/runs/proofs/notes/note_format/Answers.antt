@@ -1,6 +1,5 @@
-use Rattle.std.proofs.Common.{◌≡◌, ◌+◌, List, [], ◌∷◌, ◌++◌, map, take, sym, ap, ◌∙◌, arith}
+use Rattle.std.proofs.Common.{◌+◌, List, [], ◌∷◌, ◌++◌, map, sym, ap, ◌∙◌, arith}
 use Rattle.std.proofs.lemmas.List.{map_push, take_all}
-use Rattle.layout.specs.Numbers.{Bytes}
 use Rattle.machine.specs.Runs as law
 use Rattle.machine.specs.Runs.{format_sealings}
 use Rattle.runs.specs.Shown.{sealing_told}

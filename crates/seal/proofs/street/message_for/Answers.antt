@@ -1,6 +1,6 @@
-use Rattle.std.proofs.Common.{◌≡◌, ℕ, ◌+◌, ◌++◌, length, replicate, sym, ap, ◌∙◌, arith, rules}
+use Rattle.std.proofs.Common.{◌≡◌, ℕ, ◌++◌, length, replicate, sym, ap, ◌∙◌, arith}
 use borrow.Rule.Slice.PartMut.{put_mid}
-use Rattle.std.proofs.lemmas.List.{append_assoc, length-append, places}
+use Rattle.std.proofs.lemmas.List.{append_assoc, length-append}
 use Rattle.layout.specs.Numbers.{Bytes, little}
 use Rattle.layout.proofs.Littles.{little_four}
 use Rattle.layout.proofs.Pieces.{put_next, put_last}

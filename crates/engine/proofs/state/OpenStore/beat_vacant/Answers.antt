@@ -1,6 +1,6 @@
-use Rattle.std.proofs.Common.{◌≡◌, None, vec_items, sym, refl, ap, ◌∙◌}
-use Rattle.machine.specs.Machine.{Machine, Outcome, occupant}
-use Rattle.tables.specs.Views.{entry_of, waited, placed}
+use Rattle.std.proofs.Common.{◌≡◌, None, ap, ◌∙◌}
+use Rattle.machine.specs.Machine.{Outcome, occupant}
+use Rattle.tables.specs.Views.{entry_of}
 use Rattle.engine.specs.View.{machine}
 use Rattle.engine.proofs.Beats.{nothing_first, something_first, settles, beat_idle, beat_landed}
 use Rattle.engine.proofs.state.OpenStore.beat_vacant.Goals as goal

@@ -1,4 +1,4 @@
-use Rattle.std.proofs.Common.{◌≡◌, ℕ, Bool, List, vec_items, sym, refl, ap, ◌∙◌, arith}
+use Rattle.std.proofs.Common.{◌≡◌, ℕ, Bool, List, vec_items, refl, ap, ◌∙◌, arith}
 use Rattle.layout.specs.Numbers.{Bytes}
 use Rattle.machine.specs.Machine.{altered}
 use Rattle.tables.specs.Views.{waited, join_of}

@@ -1,4 +1,4 @@
-use Rattle.std.proofs.Common.{◌≡◌, ℕ, ◌^◌, ◌<◌, List, ◌++◌, length, sym, ap, ◌∙◌, subst, arith}
+use Rattle.std.proofs.Common.{◌≡◌, ℕ, ◌++◌, sym, ◌∙◌, subst, arith}
 use Rattle.layout.specs.Numbers.{Bytes, little}
 use Rattle.layout.specs.Layouts.{body_of, zeros, BodyApart}
 use Rattle.layout.proofs.Littles.{little_four}

@@ -1,4 +1,4 @@
-use Rattle.std.proofs.Common.{◌≡◌, ℕ, ◌+◌, ◌≤◌, ◌++◌, length, take, drop, sym, ap, ◌∙◌, arith}
+use Rattle.std.proofs.Common.{◌≡◌, ℕ, ◌≤◌, ◌++◌, length, take, drop, sym, ap, ◌∙◌, arith}
 use Rattle.std.proofs.lemmas.List.{take_all, length-drop, drop-drop, take-append-drop}
 use Rattle.layout.specs.Numbers.{Bytes, little, number}
 use Rattle.layout.specs.Layouts.{record_of, counter_in, sealed_in, tag_in}

@@ -1,10 +1,10 @@
-use Rattle.std.proofs.Common.{◌≡◌, ap, ◌∙◌, arith}
+use Rattle.std.proofs.Common.{ap, ◌∙◌, arith}
 use lib.Bits.{bit_xor}
 use lib.Lanes.{zip2}
 use Rattle.layout.specs.Numbers.{Bytes}
 use Rattle.cipher.specs.Chacha20.{block}
 use Rattle.cipher.proofs.Zips.{zipped}
-use Rattle.seal.specs.Schemes.{street_cover, keystream}
+use Rattle.seal.specs.Schemes.{keystream}
 use Rattle.seal.proofs.street.StreetSealScheme.cover.Goals as goal
 
 pub returns : goal.returns

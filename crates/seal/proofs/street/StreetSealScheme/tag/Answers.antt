@@ -1,8 +1,8 @@
-use Rattle.std.proofs.Common.{◌≡◌, ℕ, ap, ◌∙◌}
+use Rattle.std.proofs.Common.{ap, ◌∙◌}
 use Rattle.layout.specs.Numbers.{Bytes, little}
 use Rattle.layout.proofs.Littles.{little_eight}
 use Rattle.cipher.specs.Siphash.{siphash}
-use Rattle.seal.specs.Schemes.{street_tag, tagged_bytes}
+use Rattle.seal.specs.Schemes.{street_tag}
 use Rattle.seal.proofs.street.StreetSealScheme.tag.Goals as goal
 
 pub returns : goal.returns

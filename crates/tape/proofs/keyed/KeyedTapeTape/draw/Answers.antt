@@ -1,4 +1,4 @@
-use Rattle.std.proofs.Common.{◌≡◌, ℕ, ◌+◌, ◌-◌, ◌/◌, ◌<◌, sym, ap, ◌∙◌, arith}
+use Rattle.std.proofs.Common.{arith}
 use Rattle.tape.specs.Keyed.{tape_block}
 use Rattle.tape.proofs.Drawn.{draws_first}
 use Rattle.tape.proofs.keyed.KeyedTapeTape.draw.Goals as goal

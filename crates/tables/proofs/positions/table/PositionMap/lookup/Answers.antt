@@ -1,4 +1,4 @@
-use Rattle.std.proofs.Common.{◌≡◌, ◌<◌, length, None, vec_items, sym, ap, ◌∙◌, rules}
+use Rattle.std.proofs.Common.{◌<◌, length, None, vec_items, sym, ap, ◌∙◌, rules}
 use Rattle.std.proofs.lemmas.List.{length-map, get_or-map, get_or_past}
 use Rattle.tables.specs.Views.{placed, place_of}
 use Rattle.tables.proofs.positions.table.PositionMap.lookup.Goals as goal

@@ -1,4 +1,4 @@
-use Rattle.std.proofs.Common.{◌≡◌, ℕ, ◌<◌, List, length, set, is_some, IfSome, vec_items, Option, sym, refl, ap, ◌∙◌, subst, arith, MutBor}
+use Rattle.std.proofs.Common.{◌≡◌, ◌<◌, length, set, is_some, IfSome, vec_items, Option, sym, refl, ap, ◌∙◌, subst, arith, MutBor}
 use native.Mathlib.Bridge.{le_prop}
 use Rattle.std.specs.Option.{ghost_name_of as name_of}
 use Rattle.std.proofs.lemmas.List.{length-map, map-set}
