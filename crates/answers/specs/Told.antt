@@ -12,8 +12,8 @@ use Rattle.machine.specs.Machine as machine
 use Rattle.machine.specs.Machine.{Reason, DenialOf, CausedBy, OutOfMemory}
 use Rattle.answers.specs.declared.beat.Deed.{Deed}
 use Rattle.answers.specs.declared.beat.Deed.TheVariants.{Dummy, Landed, SealedAgain}
-use Rattle.answers.specs.declared.denial.Denial.{Denial}
-use Rattle.answers.specs.declared.denial.Denial.TheVariants.{ByStore, ByCard, BySeal, ByTape, NoMemory}
+use Rattle.answers.specs.declared.denials.Denial.{Denial}
+use Rattle.answers.specs.declared.denials.Denial.TheVariants.{ByStore, ByCard, BySeal, ByTape, NoMemory}
 use Rattle.answers.specs.declared.fault.StoreFault.{StoreFault}
 use Rattle.answers.specs.declared.fault.StoreFault.TheVariants.{FileLength, BlockCount, PlaceCount, FileEntry, CounterAbove, Unopened, OtherBlock, BlockBeyond, ValueLong, BlocksWait, BufferLength, ListFull, CounterSpent}
 

@@ -2,5 +2,5 @@
 #![tactic(auto)]
 
 pub mod beat;
-pub mod denial;
+pub mod denials;
 pub mod fault;

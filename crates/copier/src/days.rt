@@ -3,7 +3,7 @@ use crate::files::replace_file;
 use crate::picture::Picture;
 use crate::strip::Mark;
 use crate::trouble::Trouble;
-use answers::denial::Denial;
+use answers::denials::Denial;
 use bookings::calls::calls_of_day;
 use bookings::days::{BEATS, BLOCKS, Booking, FIRST_DAY, HOURLY, IMAGE_LEN, SECOND_DAY};
 use bookings::keys::EXAMPLE_KEYS;

@@ -1,5 +1,5 @@
 //! Why the program fails, in words for a person.
-use answers::denial::Denial;
+use answers::denials::Denial;
 use lines::reason::Explained;
 use std::alloc::{AllocError, AllocFailed};
 use std::{fmt, io};
@@ -87,15 +87,5 @@ impl From<Denial> for Trouble<'_> {
 impl From<io::Error> for Trouble<'_> {
     fn from(error: io::Error) -> Self {
         Trouble::Io(error.kind())
-    }
-}
-
-/// What `main` ends with, once the trouble is told.
-#[derive(Clone, Copy)]
-pub(crate) struct Failed;
-
-impl From<io::Error> for Failed {
-    fn from(_error: io::Error) -> Failed {
-        Failed
     }
 }

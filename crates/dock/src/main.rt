@@ -22,7 +22,8 @@ use days::run_days;
 use options::{Task, task_of};
 use scripted::run_script;
 use std::env;
-use trouble::{Failed, Trouble};
+use std::process::ExitCode;
+use trouble::Trouble;
 use usage::USAGE;
 
 /// The words of the command line, without the program's name.
@@ -43,20 +44,20 @@ fn run<'a>(rt: &HostRuntime, words: &'a [String]) -> Result<(), Trouble<'a>> {
     Ok(())
 }
 
-fn main(rt: HostRuntime) -> Result<(), Failed> {
-    let told = match read_words(&rt) {
+fn main(rt: HostRuntime) -> ExitCode {
+    match read_words(&rt) {
         Ok(words) => tell(&rt, run(&rt, words.as_slice())),
         Err(trouble) => tell(&rt, Err(trouble)),
-    };
-    told
+    }
 }
 
-fn tell(rt: &HostRuntime, done: Result<(), Trouble<'_>>) -> Result<(), Failed> {
+/// Tells what went wrong, on standard error, and what the process ends with.
+fn tell(rt: &HostRuntime, done: Result<(), Trouble<'_>>) -> ExitCode {
     match done {
-        Ok(()) => Ok(()),
+        Ok(()) => ExitCode::SUCCESS,
         Err(trouble) => {
-            eprintln!(rt; "dock: {trouble}")?;
-            Err(Failed)
+            let _ = eprintln!(rt; "dock: {trouble}");
+            ExitCode::FAILURE
         }
     }
 }

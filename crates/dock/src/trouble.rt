@@ -1,7 +1,7 @@
 //! Why the program fails, in words for a person.
 use crate::mishap::Mishap;
 use crate::misuse::Misuse;
-use answers::denial::Denial;
+use answers::denials::Denial;
 use lines::reason::Explained;
 use std::alloc::{AllocError, AllocFailed};
 use std::{fmt, io};
@@ -89,15 +89,5 @@ impl<T: Drop> From<AllocFailed<T>> for Trouble<'_> {
 impl From<io::Error> for Trouble<'_> {
     fn from(error: io::Error) -> Self {
         Trouble::Mishap(Mishap::Io(error.kind()))
-    }
-}
-
-/// What `main` ends with, once the trouble is told.
-#[derive(Clone, Copy)]
-pub(crate) struct Failed;
-
-impl From<io::Error> for Failed {
-    fn from(_error: io::Error) -> Failed {
-        Failed
     }
 }

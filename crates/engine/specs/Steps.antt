@@ -6,7 +6,7 @@ use Rattle.denial.specs.Denials as table
 use Rattle.denial.specs.Denials.{place_beyond}
 use Rattle.machine.specs.Machine.{Reason, DenialOf, Answer, Denied, Beaten, filled}
 use Rattle.answers.specs.declared.beat.Beat.{Beat}
-use Rattle.answers.specs.declared.denial.Denial.{Denial}
+use Rattle.answers.specs.declared.denials.Denial.{Denial}
 use Rattle.answers.specs.Told.{reason_of, deed_told}
 
 -- an answer of the code, with its denial told as a reason

@@ -10,7 +10,7 @@ use super::state::OpenStore;
 use crate::records::{clear_at, open_at};
 use crate::values::filled_value;
 use answers::beat::{Beat, Deed};
-use answers::denial::Denial;
+use answers::denials::Denial;
 use answers::fault::StoreFault;
 use card::card::Card;
 use card::fault::CardFault;

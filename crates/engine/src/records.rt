@@ -3,7 +3,7 @@ ghost use Rattle.std.specs.Prelude.{◌≡◌};
 ghost use Rattle.machine.specs.Machine.{opened_at};
 ghost use Rattle.engine.specs.Steps.{by_reason, as_reason, clear_at};
 
-use answers::denial::Denial;
+use answers::denials::Denial;
 use card::card::Card;
 use layout::names::Place;
 use layout::records::clear_counter;

@@ -1,6 +1,6 @@
 //! Denials in words, for a person: what is wrong, and what to do.
 use crate::reply::Denied;
-use answers::denial::Denial;
+use answers::denials::Denial;
 use answers::fault::StoreFault;
 use std::fmt;
 

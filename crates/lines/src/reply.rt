@@ -1,7 +1,7 @@
 //! What a call answered, in the fixed words of an answer line.
 use crate::hex::Hex;
 use answers::beat::Deed;
-use answers::denial::Denial;
+use answers::denials::Denial;
 use denial::Fault;
 use runs::calls::Answer;
 use seal::fault::SealFault;

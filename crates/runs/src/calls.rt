@@ -1,5 +1,5 @@
 use answers::beat::Beat;
-use answers::denial::Denial;
+use answers::denials::Denial;
 use layout::names::Block;
 
 /// How a store is made.

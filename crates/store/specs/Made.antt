@@ -3,7 +3,7 @@ use Rattle.std.specs.Prelude.{◌≡◌, ℕ, ◌⊎◌, List, Ok, Err, Result}
 use Rattle.layout.specs.Numbers.{Bytes}
 use Rattle.machine.specs.Machine.{Reason, OutOfMemory}
 use Rattle.machine.specs.Makings.{Store, Open, Shut}
-use Rattle.makings.specs.Sizes.{SizesFit}
+use Rattle.prepare.specs.Sizes.{SizesFit}
 
 -- the store that the definition makes; or, where the sizes fit, one that is shut for want of memory over the card and the tape as they were
 abbrev pub MadeBy : Store → List Bytes → List ℕ → Store → Type 0

@@ -7,7 +7,7 @@ ghost use Rattle.store.specs.Made.{making_answer, card_of, tape_of};
 
 use super::state::Store;
 use answers::beat::Beat;
-use answers::denial::Denial;
+use answers::denials::Denial;
 use card::card::Card;
 use layout::names::Block;
 use seal::seal::Seal;

@@ -1,4 +1,4 @@
-use answers::denial::Denial;
+use answers::denials::Denial;
 use card::card::Card;
 use engine::state::OpenStore;
 use seal::seal::Seal;

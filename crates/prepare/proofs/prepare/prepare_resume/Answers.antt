@@ -7,17 +7,17 @@ use Rattle.machine.specs.Files.{file_blocks, file_count, file_last, entries}
 use Rattle.machine.specs.Machine.{Reason}
 use Rattle.machine.specs.Makings.{Shut, above, entries_fit, resume}
 use Rattle.answers.specs.Told.{store_denial, store_reason, reason_of}
-use Rattle.answers.specs.declared.denial.Denial as code
-use Rattle.answers.specs.declared.denial.Denial.TheVariants.{ByStore, NoMemory}
+use Rattle.answers.specs.declared.denials.Denial as code
+use Rattle.answers.specs.declared.denials.Denial.TheVariants.{ByStore, NoMemory}
 use Rattle.answers.specs.declared.fault.StoreFault.{StoreFault}
 use Rattle.mapfile.specs.Reads.{parse_of}
 use Rattle.mapfile.proofs.Entries.{parse_some}
-use Rattle.makings.specs.Checks.{size_check, counter_check}
-use Rattle.makings.specs.Sizes.{SizesFit}
-use Rattle.makings.specs.declared.memory.Memory.{Memory}
-use Rattle.makings.specs.Prepared.{Prepared}
-use Rattle.makings.proofs.Resumed.{plain_reason, sizes_shut, counters_shut, sizes_fit}
-use Rattle.makings.proofs.prepare.prepare_resume.Goals as goal
+use Rattle.prepare.specs.Checks.{size_check, counter_check}
+use Rattle.prepare.specs.Sizes.{SizesFit}
+use Rattle.prepare.specs.declared.memory.Memory.{Memory}
+use Rattle.prepare.specs.Prepared.{Prepared}
+use Rattle.prepare.proofs.Resumed.{plain_reason, sizes_shut, counters_shut, sizes_fit}
+use Rattle.prepare.proofs.prepare.prepare_resume.Goals as goal
 
 -- a denial that resume defines, handed up
 shut_so : (rules : Rules) (card : List Bytes) (file : Bytes) (r : Result Memory code.Denial) (y d : code.Denial) → r ≡ Err y → y ≡ d

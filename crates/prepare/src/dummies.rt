@@ -1,7 +1,7 @@
 ghost use Rattle.std.specs.Prelude.{◌≡◌, true, is_ok};
 ghost use Rattle.machine.specs.Makings.{dummies};
 
-use answers::denial::Denial;
+use answers::denials::Denial;
 use card::card::Card;
 use layout::body::Body;
 use layout::names::Place;

@@ -4,7 +4,7 @@ use Rattle.layout.specs.Numbers.{Bytes}
 use Rattle.seal.specs.Seals.{Rules}
 use Rattle.machine.specs.Machine.{Reason, opened_at}
 use Rattle.machine.specs.Makings.{first_of, entry_opened, entries_open}
-use Rattle.makings.specs.Checks.{opening_check}
+use Rattle.prepare.specs.Checks.{opening_check}
 
 -- what is left decides as the whole does
 abbrev pub Left : Rules → List Bytes → List (ℕ × ℕ) → ℕ → Type 0

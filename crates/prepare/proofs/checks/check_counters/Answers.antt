@@ -1,7 +1,7 @@
 use Rattle.std.proofs.Common.{arith}
 use Rattle.engine.proofs.Faces.{cleared}
-use Rattle.makings.proofs.Counters.{above_here, above_later, above_never}
-use Rattle.makings.proofs.checks.check_counters.Goals as goal
+use Rattle.prepare.proofs.Counters.{above_here, above_later, above_never}
+use Rattle.prepare.proofs.checks.check_counters.Goals as goal
 
 pub returns-then-branch-last : goal.returns-then-branch-last
 returns-then-branch-last g c =

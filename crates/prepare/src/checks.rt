@@ -3,9 +3,9 @@ ghost use Rattle.denial.specs.Denials.{told};
 ghost use Rattle.answers.specs.Told.{store_denial};
 ghost use Rattle.machine.specs.Makings.{above};
 ghost use Rattle.engine.specs.Steps.{by_reason};
-ghost use Rattle.makings.specs.Checks.{size_check, counter_check};
+ghost use Rattle.prepare.specs.Checks.{size_check, counter_check};
 
-use answers::denial::Denial;
+use answers::denials::Denial;
 use answers::fault::StoreFault;
 use card::card::Card;
 use engine::records::clear_at;

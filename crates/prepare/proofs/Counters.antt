@@ -8,7 +8,7 @@ use Rattle.denial.specs.Denials.{counter_above}
 use Rattle.machine.specs.Machine.{Reason, DenialOf}
 use Rattle.machine.specs.Makings.{above}
 use Rattle.engine.specs.Steps.{as_reason, clear_at}
-use Rattle.makings.specs.Checks.{counter_check}
+use Rattle.prepare.specs.Checks.{counter_check}
 
 -- what is left decides as the whole does
 abbrev pub Seeks : List Bytes → ℕ → ℕ → Type 0

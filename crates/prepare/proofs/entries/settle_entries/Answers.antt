@@ -2,8 +2,8 @@ use Rattle.std.proofs.Common.{◌+◌, ◌∷◌, drop, sym, ap, ◌∙◌, inl,
 use Rattle.std.proofs.lemmas.Bool.{false≢true}
 use Rattle.machine.specs.Files.{file_blocks, entries}
 use Rattle.mapfile.proofs.Entries.{entry_is, entries_more, at_entries_all}
-use Rattle.makings.proofs.Rising.{going_start, going_on, going_wrong, going_all, unsettled_misfit, was_denied, was_granted, with_answer}
-use Rattle.makings.proofs.entries.settle_entries.Goals as goal
+use Rattle.prepare.proofs.Rising.{going_start, going_on, going_wrong, going_all, unsettled_misfit, was_denied, was_granted, with_answer}
+use Rattle.prepare.proofs.entries.settle_entries.Goals as goal
 
 pub loop-i-init : goal.loop-i-init
 loop-i-init c = going_start _ _ _ _ c.requires

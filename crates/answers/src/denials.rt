@@ -2,7 +2,7 @@ ghost use Rattle.std.specs.Prelude.{◌≡◌};
 ghost use Rattle.std.specs.Option.{option_map};
 ghost use Rattle.denial.specs.Denials.{place_number};
 ghost use Rattle.seal.specs.Faults.{seal_denial};
-ghost use Rattle.answers.specs.declared.denial.Denial.TheVariants.{ByStore, ByCard, BySeal, ByTape, NoMemory};
+ghost use Rattle.answers.specs.declared.denials.Denial.TheVariants.{ByStore, ByCard, BySeal, ByTape, NoMemory};
 ghost use Rattle.answers.specs.Told.{reason_of, reason_number, reason_layer, reason_place, reason_cause};
 
 use crate::fault::StoreFault;

@@ -1,5 +1,5 @@
-use Rattle.makings.proofs.Counters.{Seeks}
-use Rattle.makings.proofs.checks.check_counters.Given as goal
+use Rattle.prepare.proofs.Counters.{Seeks}
+use Rattle.prepare.proofs.checks.check_counters.Given as goal
 
 abbrev pub invariant-loop-i : goal.invariant-loop-i
 invariant-loop-i g l = Seeks (g.C.Card.records l.card) l.last l.i

@@ -4,10 +4,10 @@ use Rattle.layout.specs.Numbers.{Bytes}
 use Rattle.machine.specs.Machine.{Machine, OutOfMemory}
 use Rattle.machine.specs.Makings.{Store, Open, Shut}
 use Rattle.tables.specs.Views.{placed, waited}
-use Rattle.answers.specs.declared.denial.Denial.{Denial}
+use Rattle.answers.specs.declared.denials.Denial.{Denial}
 use Rattle.answers.specs.Told.{reason_of}
-use Rattle.makings.specs.Sizes.{SizesFit}
-use Rattle.makings.specs.declared.memory.Memory.{Memory}
+use Rattle.prepare.specs.Sizes.{SizesFit}
+use Rattle.prepare.specs.declared.memory.Memory.{Memory}
 
 -- the machine of a card, a tape and a memory
 abbrev pub machine_with : List Bytes → List ℕ → Memory → Machine

@@ -1,6 +1,6 @@
 use Rattle.std.proofs.Common.{◌≡◌, length}
-use Rattle.makings.proofs.Halves.{half_done}
-use Rattle.makings.proofs.dummies.seal_dummies.Given as goal
+use Rattle.prepare.proofs.Halves.{half_done}
+use Rattle.prepare.proofs.dummies.seal_dummies.Given as goal
 
 abbrev pub invariant-loop-i : goal.invariant-loop-i
 invariant-loop-i g l =

@@ -11,8 +11,8 @@ use Rattle.machine.specs.Makings.{Store, Shut, shut, above, blocks_fit, places_f
 use Rattle.answers.specs.Told.{store_denial, store_reason}
 use Rattle.answers.specs.declared.fault.StoreFault.{StoreFault}
 use Rattle.answers.specs.declared.fault.StoreFault.TheVariants.{FileLength, BlockCount, PlaceCount, FileEntry, CounterAbove, Unopened, OtherBlock, BlockBeyond, ValueLong, BlocksWait, BufferLength, ListFull, CounterSpent}
-use Rattle.makings.specs.Checks.{size_check, counter_check}
-use Rattle.makings.specs.Sizes.{SizesFit}
+use Rattle.prepare.specs.Checks.{size_check, counter_check}
+use Rattle.prepare.specs.Sizes.{SizesFit}
 
 sizes_two_or_three : (s t : Bool) (d : Denial) → ◌≡◌ {A = Result (Unit {0}) Denial} (Err d) (cond s (cond t (Ok tt) (Err place_count)) (Err block_count)) → d.number < 4
 sizes_two_or_three true true d e = let z : ◌≡◌ {A = ℕ} 0 1 = cc in absurd (omega arith)

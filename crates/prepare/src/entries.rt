@@ -5,9 +5,9 @@ ghost use Rattle.machine.specs.Files.{file_blocks, entries};
 ghost use Rattle.machine.specs.Machine.{opened_at};
 ghost use Rattle.machine.specs.Makings.{entries_fit, settled, entry_opened, entries_open};
 ghost use Rattle.engine.specs.Steps.{by_reason};
-ghost use Rattle.makings.specs.Checks.{opening_check};
+ghost use Rattle.prepare.specs.Checks.{opening_check};
 
-use answers::denial::Denial;
+use answers::denials::Denial;
 use answers::fault::StoreFault;
 use card::card::Card;
 use engine::records::open_at;

@@ -4,9 +4,9 @@ use Rattle.answers.specs.Told.{reason_of}
 use Rattle.engine.specs.Steps.{by_reason}
 use Rattle.machine.specs.Files.{file_blocks, entries}
 use Rattle.mapfile.proofs.Entries.{entry_is, entries_more, at_entries_all, length_entries}
-use Rattle.makings.proofs.Opens.{entry_fails, entry_passes, entries_pass}
-use Rattle.makings.proofs.Rising.{fit_places}
-use Rattle.makings.proofs.entries.check_entries.Goals as goal
+use Rattle.prepare.proofs.Opens.{entry_fails, entry_passes, entries_pass}
+use Rattle.prepare.proofs.Rising.{fit_places}
+use Rattle.prepare.proofs.entries.check_entries.Goals as goal
 
 pub check_entry-requires : goal.check_entry-requires
 check_entry-requires g c =

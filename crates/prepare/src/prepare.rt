@@ -1,11 +1,11 @@
 ghost use Rattle.machine.specs.Makings.{format, resume};
-ghost use Rattle.makings.specs.Prepared.{Prepared};
+ghost use Rattle.prepare.specs.Prepared.{Prepared};
 
 use crate::checks::{check_counters, check_sizes};
 use crate::dummies::seal_dummies;
 use crate::entries::{check_entries, settle_entries};
 use crate::memory::Memory;
-use answers::denial::Denial;
+use answers::denials::Denial;
 use answers::fault::StoreFault;
 use card::card::Card;
 use mapfile::file::MapFile;

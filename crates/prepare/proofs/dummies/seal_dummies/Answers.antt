@@ -1,6 +1,6 @@
 use Rattle.std.proofs.Common.{◌≡◌, ◌<◌, length, refl, ap, ◌∙◌, arith}
-use Rattle.makings.proofs.Halves.{length_half, half_all, half_put, put_granted_here}
-use Rattle.makings.proofs.dummies.seal_dummies.Goals as goal
+use Rattle.prepare.proofs.Halves.{length_half, half_all, half_put, put_granted_here}
+use Rattle.prepare.proofs.dummies.seal_dummies.Goals as goal
 
 pub returns-in_err-put : goal.returns-in_err-put
 returns-in_err-put g c =
