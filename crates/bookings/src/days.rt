@@ -30,38 +30,38 @@ pub const BEATS: u32 = 40;
 pub const FIRST_DAY: [Option<Booking>; HOURS] = [
     Some(Booking {
         block: Block(3),
-        text: "K7Q2 Anna Berg, bike 14, two hours",
+        text: "K7Q2 Anna Berg, room 14, two nights",
     }),
     Some(Booking {
         block: Block(0),
-        text: "M4XD Jonas Falk, bike 3, one hour",
+        text: "M4XD Jonas Falk, room 3, one night",
     }),
     None,
     Some(Booking {
         block: Block(11),
-        text: "T9RW Ida Lund, bike 21, four hours",
+        text: "T9RW Ida Lund, room 21, four nights",
     }),
     Some(Booking {
         block: Block(6),
-        text: "B2HN Peter Holm, bike 8, one hour",
+        text: "B2HN Peter Holm, room 8, one night",
     }),
     None,
     Some(Booking {
         block: Block(3),
-        text: "K7Q2 Anna Berg, bike 14, three hours",
+        text: "K7Q2 Anna Berg, room 14, three nights",
     }),
     Some(Booking {
         block: Block(9),
-        text: "F8LJ Omar Said, bike 5, two hours",
+        text: "F8LJ Omar Said, room 5, two nights",
     }),
     Some(Booking {
         block: Block(4),
-        text: "W3GV Lena Vogt, bike 12, six hours",
+        text: "W3GV Lena Vogt, room 12, six nights",
     }),
     None,
     Some(Booking {
         block: Block(7),
-        text: "D6SY Paul Weiss, bike 2, one hour",
+        text: "D6SY Paul Weiss, room 2, one night",
     }),
     None,
 ];
@@ -71,7 +71,7 @@ pub const SECOND_DAY: [Option<Booking>; HOURS] = [
     None,
     Some(Booking {
         block: Block(10),
-        text: "Z5CP Marta Ruiz, bike 17, three hours",
+        text: "Z5CP Marta Ruiz, room 17, three nights",
     }),
     None,
     None,
@@ -83,7 +83,7 @@ pub const SECOND_DAY: [Option<Booking>; HOURS] = [
     None,
     Some(Booking {
         block: Block(1),
-        text: "H1TB Emil Roth, bike 9, two hours",
+        text: "H1TB Emil Roth, room 9, two nights",
     }),
     None,
     None,

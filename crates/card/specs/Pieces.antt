@@ -12,13 +12,13 @@ length_pieces zero s = refl
 length_pieces (suc n) s = ap suc (length_pieces n (drop 64 s))
 
 -- the piece at p begins at byte p * 64
-pub getD_pieces : (n p a : ℕ) (s : Bytes) → p < n → a ≡ p * 64 → get_or (pieces n s) p [] ≡ take 64 (drop a s)
+pub get_or_pieces : (n p a : ℕ) (s : Bytes) → p < n → a ≡ p * 64 → get_or (pieces n s) p [] ≡ take 64 (drop a s)
 unfolding pieces
-getD_pieces zero p a s h e = absurd (omega arith)
-getD_pieces (suc n) zero a s h e = ap (λ (k : ℕ). take 64 (drop k s)) (sym e)
-getD_pieces (suc n) (suc p) a s h e =
+get_or_pieces zero p a s h e = absurd (omega arith)
+get_or_pieces (suc n) zero a s h e = ap (λ (k : ℕ). take 64 (drop k s)) (sym e)
+get_or_pieces (suc n) (suc p) a s h e =
     let b : 64 + p * 64 ≡ a = omega arith in
-    getD_pieces n p (p * 64) (drop 64 s) (omega arith) refl
+    get_or_pieces n p (p * 64) (drop 64 s) (omega arith) refl
     ∙ ap (take 64) (drop-drop (p * 64) 64 s ∙ ap (λ (k : ℕ). drop k s) b)
 
 -- bytes hold no more records than a card may have
@@ -30,4 +30,4 @@ pub bytes_whole : (s : Bytes) (p : ℕ) → p < length (byte_records s) → leng
 bytes_whole s p h =
     let n = length_pieces (byte_count s) s in
     let l : 64 ≤ length (drop (p * 64) s) = simp length-drop (omega arith) in
-    ap length (getD_pieces (byte_count s) p (p * 64) s (omega arith) refl) ∙ length-take-le 64 (drop (p * 64) s) l
+    ap length (get_or_pieces (byte_count s) p (p * 64) s (omega arith) refl) ∙ length-take-le 64 (drop (p * 64) s) l

@@ -20,23 +20,23 @@ length_woven (e ∷ es) [] = omega arith
 length_woven (e ∷ es) (o ∷ os) = omega (arith, length_woven es os)
 
 -- the record at an even place, and at an odd one
-getD_even : (q p : ℕ) (es os : List Bytes) → p ≡ 2 * q → q < length es → q < length os → slice_index_or (woven es os) p [] ≡ slice_index_or es q []
+get_or_even : (q p : ℕ) (es os : List Bytes) → p ≡ 2 * q → q < length es → q < length os → slice_index_or (woven es os) p [] ≡ slice_index_or es q []
 unfolding woven
-getD_even q p [] os i h k = absurd (omega arith)
-getD_even q p (e ∷ es) [] i h k = absurd (omega arith)
-getD_even zero p (e ∷ es) (o ∷ os) i h k = ap (λ (n : ℕ). get_or (e ∷ o ∷ woven es os) n []) i
-getD_even (suc q) p (e ∷ es) (o ∷ os) i h k =
+get_or_even q p [] os i h k = absurd (omega arith)
+get_or_even q p (e ∷ es) [] i h k = absurd (omega arith)
+get_or_even zero p (e ∷ es) (o ∷ os) i h k = ap (λ (n : ℕ). get_or (e ∷ o ∷ woven es os) n []) i
+get_or_even (suc q) p (e ∷ es) (o ∷ os) i h k =
     let j : p ≡ suc (suc (2 * q)) = omega arith in
-    ap (λ (n : ℕ). get_or (e ∷ o ∷ woven es os) n []) j ∙ getD_even q (2 * q) es os refl (omega arith) (omega arith)
+    ap (λ (n : ℕ). get_or (e ∷ o ∷ woven es os) n []) j ∙ get_or_even q (2 * q) es os refl (omega arith) (omega arith)
 
-getD_odd : (q p : ℕ) (es os : List Bytes) → p ≡ suc (2 * q) → q < length es → q < length os → slice_index_or (woven es os) p [] ≡ slice_index_or os q []
+get_or_odd : (q p : ℕ) (es os : List Bytes) → p ≡ suc (2 * q) → q < length es → q < length os → slice_index_or (woven es os) p [] ≡ slice_index_or os q []
 unfolding woven
-getD_odd q p [] os i h k = absurd (omega arith)
-getD_odd q p (e ∷ es) [] i h k = absurd (omega arith)
-getD_odd zero p (e ∷ es) (o ∷ os) i h k = ap (λ (n : ℕ). get_or (e ∷ o ∷ woven es os) n []) i
-getD_odd (suc q) p (e ∷ es) (o ∷ os) i h k =
+get_or_odd q p [] os i h k = absurd (omega arith)
+get_or_odd q p (e ∷ es) [] i h k = absurd (omega arith)
+get_or_odd zero p (e ∷ es) (o ∷ os) i h k = ap (λ (n : ℕ). get_or (e ∷ o ∷ woven es os) n []) i
+get_or_odd (suc q) p (e ∷ es) (o ∷ os) i h k =
     let j : p ≡ suc (suc (suc (2 * q))) = omega arith in
-    ap (λ (n : ℕ). get_or (e ∷ o ∷ woven es os) n []) j ∙ getD_odd q (suc (2 * q)) es os refl (omega arith) (omega arith)
+    ap (λ (n : ℕ). get_or (e ∷ o ∷ woven es os) n []) j ∙ get_or_odd q (suc (2 * q)) es os refl (omega arith) (omega arith)
 
 -- a record replaced on one side is replaced at its place in turn
 set_even : (q p : ℕ) (es os : List Bytes) (r : Bytes) → p ≡ 2 * q → slice_set (woven es os) p r ≡ woven (slice_set es q r) os
@@ -74,12 +74,12 @@ in_front p es os h = get_or-take most (woven es os) p [] (omega (arith, length_s
 at_even : (p : ℕ) (es os : List Bytes) → p < length (split es os) → p % 2 ≡ 0 → slice_index_or (split es os) p [] ≡ slice_index_or es (p / 2) []
 at_even p es os h e =
     let half = half_below p es os h in
-    in_front p es os h ∙ getD_even (p / 2) p es os (omega arith) half.0 half.1
+    in_front p es os h ∙ get_or_even (p / 2) p es os (omega arith) half.0 half.1
 
 at_odd : (p : ℕ) (es os : List Bytes) → p < length (split es os) → p % 2 ≡ 1 → slice_index_or (split es os) p [] ≡ slice_index_or os (p / 2) []
 at_odd p es os h e =
     let half = half_below p es os h in
-    in_front p es os h ∙ getD_odd (p / 2) p es os (omega arith) half.0 half.1
+    in_front p es os h ∙ get_or_odd (p / 2) p es os (omega arith) half.0 half.1
 
 set_at_even : (p : ℕ) (es os : List Bytes) → p % 2 ≡ 0 → (r : Bytes) → slice_set (split es os) p r ≡ split (slice_set es (p / 2) r) os
 unfolding split

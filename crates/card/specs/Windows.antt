@@ -14,9 +14,9 @@ length_window start len rs = length-take len (drop start rs) ∙ (ap (min len) (
 pub window_below : (start len p : ℕ) (rs : List Bytes) → p < length (window start len rs) → start + p < length rs
 window_below start len p rs h = omega (arith, length_window start len rs)
 
-get_d_window : (start len p : ℕ) (rs : List Bytes) → p < length (window start len rs)
+get_or_window : (start len p : ℕ) (rs : List Bytes) → p < length (window start len rs)
     → slice_index_or (window start len rs) p [] ≡ slice_index_or rs (start + p) []
-get_d_window start len p rs h =
+get_or_window start len p rs h =
     let l = length_window start len rs in
     get_or-take len (drop start rs) p [] (omega arith) ∙ get_or-drop start rs p []
 
@@ -32,7 +32,7 @@ set_window start len p rs r = set_in_front len p (drop start rs) r ∙ ap (take 
 
 pub window_lies_at : (start len p : ℕ) (rs : List Bytes) → p < length (window start len rs) → LiesAt (window start len) rs p (start + p)
 window_lies_at start len p rs h =
-    lies_at (window start len) rs p (start + p) h (window_below start len p rs h) (get_d_window start len p rs h) (set_window start len p rs)
+    lies_at (window start len) rs p (start + p) h (window_below start len p rs h) (get_or_window start len p rs h) (set_window start len p rs)
 
 -- a window has no more records than the card below, and none that is not its
 pub window_few : (start len most : ℕ) (rs : List Bytes) → length rs ≤ most → length (window start len rs) ≤ most
@@ -40,4 +40,4 @@ window_few start len most rs h = omega (arith, length_window start len rs)
 
 pub window_whole : (start len : ℕ) (rs : List Bytes) → ((p : ℕ) → p < length rs → length (slice_index_or rs p []) ≡ 64)
     → (p : ℕ) → p < length (window start len rs) → length (slice_index_or (window start len rs) p []) ≡ 64
-window_whole start len rs whole p h = ap length (get_d_window start len p rs h) ∙ whole (start + p) (window_below start len p rs h)
+window_whole start len rs whole p h = ap length (get_or_window start len p rs h) ∙ whole (start + p) (window_below start len p rs h)

@@ -1,4 +1,4 @@
-//! Two days on a card file: other bookings on the same tape, and a store resumed after each.
+//! Two days: other bookings on the same tape, and a store resumed after each.
 use crate::booked::booked;
 use crate::files::{read_file, replace_file};
 use crate::keys::show_keys;
@@ -79,13 +79,22 @@ fn saved_file(heap: Global, answers: &[Answer]) -> Result<Vec<u8>, Trouble<'stat
     Ok(file)
 }
 
-/// A day from a fresh format; card and map are left in their files.
-fn book_day<'a>(
+/// What a day leaves.
+#[derive(Drop)]
+pub(crate) struct Booked {
+    /// The card's image.
+    pub image: Vec<u8>,
+    /// The map file.
+    pub map: Vec<u8>,
+    pub transcript: Transcript,
+}
+
+/// A day from a fresh format.
+pub(crate) fn book_day(
     rt: &HostRuntime,
-    paths: Paths<'a>,
     keys: Keys,
     day: &[Option<Booking>],
-) -> Result<Transcript, Trouble<'a>> {
+) -> Result<Booked, Trouble<'static>> {
     let heap = rt.alloc();
     let mut image = vec![in heap; 0; IMAGE_LEN]?;
     let card = ByteCard::new(image.as_mut_slice());
@@ -109,35 +118,55 @@ fn book_day<'a>(
     let transcript = transcript?;
     take_answers(rt, day, calls.as_slice(), transcript.answers.as_slice())?;
     let map = saved_file(heap, transcript.answers.as_slice())?;
-    replace_file(rt, paths.card, image.as_slice())?;
-    replace_file(rt, paths.map, map.as_slice())?;
-    Ok(transcript)
+    Ok(Booked {
+        image,
+        map,
+        transcript,
+    })
 }
 
-/// A second store, resumed from the two files, reads every block again.
-fn read_again<'a>(
+/// A second store, resumed from card and map, reads every block again. `resumed` says where they come from.
+pub(crate) fn read_again(
     rt: &HostRuntime,
-    paths: Paths<'a>,
     keys: Keys,
     day: &[Option<Booking>],
-) -> Result<(), Trouble<'a>> {
+    image: &mut [u8],
+    map: &[u8],
+    resumed: &str,
+) -> Result<(), Trouble<'static>> {
     let heap = rt.alloc();
-    let mut image = read_file(rt, paths.card)?;
-    let map = read_file(rt, paths.map)?;
-    let card = ByteCard::new(image.as_mut_slice());
+    let card = ByteCard::new(image);
     let seal = StreetSeal::new(keys.body, keys.tag);
     let tape = KeyedTape::new(keys.tape, keys.nonce, 0);
     let mut reads = Vec::new(heap);
     push_reads(&mut reads)?;
-    let making = Making::Resume(map.as_slice());
+    let making = Making::Resume(map);
     let Ran { store, transcript } = run(heap, card, seal, tape, &making, reads.as_slice());
     let made = store.answer();
     drop(store);
     if let Err(denial) = made {
         return Err(Trouble::Denied(denial));
     }
-    println!(rt; "  resumed from the card file and the map file")?;
+    println!(rt; "  resumed from {resumed}")?;
     take_answers(rt, day, reads.as_slice(), transcript?.answers.as_slice())
+}
+
+/// Whether two days show the same faces, which must be so.
+pub(crate) fn compare_days(
+    rt: &HostRuntime,
+    first: &Transcript,
+    second: &Transcript,
+) -> Result<(), Trouble<'static>> {
+    let beats = first.places.len();
+    match compare(first, second) {
+        Verdict::SameFaces => println!(rt;
+            "both days show the same face after each of the {beats} beats"
+        )?,
+        Verdict::OtherFaces => return Err(Trouble::OtherFaces),
+        Verdict::BegunApart => return Err(Trouble::BegunApart),
+    }
+    println!(rt; "done: two days booked, read back, saved, resumed and read again")?;
+    Ok(())
 }
 
 /// The card file and the map file beside it.
@@ -147,22 +176,37 @@ struct Paths<'a> {
     map: &'a str,
 }
 
-/// Books a day, and reads it again from its files.
+/// Books a day, leaves card and map in their files, and reads the day again from these.
 fn run_day<'a>(
     rt: &HostRuntime,
     paths: Paths<'a>,
     keys: Keys,
     day: &[Option<Booking>],
 ) -> Result<Transcript, Trouble<'a>> {
-    let transcript = book_day(rt, paths, keys, day)?;
-    read_again(rt, paths, keys, day)?;
+    let Booked {
+        image,
+        map,
+        transcript,
+    } = book_day(rt, keys, day)?;
+    replace_file(rt, paths.card, image.as_slice())?;
+    replace_file(rt, paths.map, map.as_slice())?;
+    let mut image = read_file(rt, paths.card)?;
+    let map = read_file(rt, paths.map)?;
+    read_again(
+        rt,
+        keys,
+        day,
+        image.as_mut_slice(),
+        map.as_slice(),
+        "the card file and the map file",
+    )?;
     Tally::of(transcript.answers.as_slice()).show(rt)?;
     let sealings = transcript.sealings.len();
     println!(rt; "  {sealings} sealings, the first {PLACES} by format")?;
     Ok(transcript)
 }
 
-/// Runs both days, and compares what they show to who copies the card.
+/// Runs both days on files, and compares what they show to who copies the card.
 pub(crate) fn run_days<'a>(
     rt: &HostRuntime,
     card: &'a str,
@@ -178,14 +222,6 @@ pub(crate) fn run_days<'a>(
     let first = run_day(rt, paths, keys, &FIRST_DAY)?;
     println!(rt; "second day, other bookings on the same tape:")?;
     let second = run_day(rt, paths, keys, &SECOND_DAY)?;
-    let beats = first.places.len();
-    match compare(&first, &second) {
-        Verdict::SameFaces => println!(rt;
-            "both days show the same face after each of the {beats} beats"
-        )?,
-        Verdict::OtherFaces => return Err(Trouble::OtherFaces),
-        Verdict::BegunApart => return Err(Trouble::BegunApart),
-    }
-    println!(rt; "done: two days booked, read back, saved, resumed and read again")?;
+    compare_days(rt, &first, &second)?;
     Ok(())
 }

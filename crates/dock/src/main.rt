@@ -3,6 +3,7 @@
 
 mod booked;
 mod days;
+mod demonstration;
 mod ends;
 mod files;
 mod hex;
@@ -19,6 +20,7 @@ mod usage;
 mod wrong;
 
 use days::run_days;
+use demonstration::run_demonstration;
 use options::{Task, task_of};
 use scripted::run_script;
 use std::env;
@@ -37,6 +39,7 @@ fn read_words(rt: &HostRuntime) -> Result<Vec<String>, Trouble<'static>> {
 
 fn run<'a>(rt: &HostRuntime, words: &'a [String]) -> Result<(), Trouble<'a>> {
     match task_of(words)? {
+        Task::Demonstration => run_demonstration(rt)?,
         Task::Help => print!(rt; "{USAGE}")?,
         Task::Days(card, map) => run_days(rt, card, map)?,
         Task::Script(options) => run_script(rt, options)?,

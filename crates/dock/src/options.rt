@@ -37,6 +37,8 @@ pub(crate) struct Options<'a> {
 /// What the program is to do.
 #[derive(Clone, Copy)]
 pub(crate) enum Task<'a> {
+    /// Two days in memory.
+    Demonstration,
     Help,
     /// Two days on a card file that is made anew, and its map file.
     Days(&'a str, &'a str),
@@ -70,11 +72,14 @@ struct Reading<'a> {
     tape: Option<TapeChoice<'a>>,
 }
 
-/// Reads the command line; with no words there is the help.
+/// Reads the command line; with no words there is the demonstration.
 pub(crate) fn task_of<'a>(words: &'a [String]) -> Result<Task<'a>, Trouble<'a>> {
+    if words.is_empty() {
+        return Ok(Task::Demonstration);
+    }
     let mut reading = Reading {
         next: Next::Option,
-        help: words.is_empty(),
+        help: false,
         days: None,
         first: None,
         second: None,

@@ -6,10 +6,10 @@ use std::io;
 /// How often the calls did what.
 #[derive(Clone, Copy)]
 pub(crate) struct Tally {
-    writes: u32,
-    landed: u32,
-    again: u32,
-    dummies: u32,
+    pub writes: u32,
+    pub landed: u32,
+    pub again: u32,
+    pub dummies: u32,
 }
 
 impl Tally {

@@ -3,6 +3,7 @@
 pub(crate) const USAGE: &str = "dock: a hiding store on card files, driven by a script
 
 usage: dock OPTIONS < SCRIPT     carries out the script, a call a line
+       dock                      runs the demonstration, two days in memory
        dock --days CARD MAP      books two days on a card that is made anew in the file CARD,
                                  and saves its map in the file MAP
        dock --help               prints this

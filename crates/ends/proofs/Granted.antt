@@ -25,10 +25,10 @@ stored rs after p bytes e =
     ap (λ (q : Result (Unit {0}) Denial × List Bytes). q.1) e
     ∙ ap (λ (a : Result (Unit {0}) Denial). if_granted a (set rs p bytes) rs) (sym (ap (λ (q : Result (Unit {0}) Denial × List Bytes). q.0) e))
 
-sealed_if : (fits : Bool) (record-bytes buffer after : Bytes) (d : Denial)
-    → ◌≡◌ {A = Result (Unit {0}) Denial × Bytes} (Ok tt, after) (cond fits (Ok tt, record-bytes) (Err d, buffer)) → after ≡ record-bytes
-sealed_if true record-bytes buffer after d e = ap (λ (q : Result (Unit {0}) Denial × Bytes). q.1) e
-sealed_if false record-bytes buffer after d e =
+sealed_if : (fits : Bool) (record_bytes buffer after : Bytes) (d : Denial)
+    → ◌≡◌ {A = Result (Unit {0}) Denial × Bytes} (Ok tt, after) (cond fits (Ok tt, record_bytes) (Err d, buffer)) → after ≡ record_bytes
+sealed_if true record_bytes buffer after d e = ap (λ (q : Result (Unit {0}) Denial × Bytes). q.1) e
+sealed_if false record_bytes buffer after d e =
     let P : Result (Unit {0}) Denial × Bytes → Type 0 = λ q. IsOk q.0 in
     absurd (subst P e tt)
 

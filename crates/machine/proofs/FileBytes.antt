@@ -5,7 +5,7 @@ use Rattle.layout.specs.Numbers.{Bytes, number}
 use Rattle.seal.specs.Seals.{Rules, Lawful}
 use Rattle.machine.specs.Files.{landed_from, landed_places, file_of, numbers}
 use Rattle.machine.specs.Machine.{Machine}
-use Rattle.machine.specs.Law.{number_at, Laid_out}
+use Rattle.machine.specs.Law.{number_at, LaidOut}
 use Rattle.machine.proofs.Invariant.{Sound, opened_parts}
 use Rattle.machine.proofs.SavedFiles.{read_back, blocks_part, places_part}
 
@@ -29,7 +29,7 @@ landed_at j (None ∷ places) i h = let r = landed_at (suc j) places i h in (suc
 landed_at j (Some p ∷ places) zero h = (0, omega arith, refl)
 landed_at j (Some p ∷ places) (suc i) h = let r = landed_at (suc j) places i (omega arith) in (suc r.0, omega (arith, r.1), r.2)
 
-pub laid_out : (rules : Rules) → Lawful rules → (m : Machine) → Sound rules m → Laid_out m (file_of (length m.card) m.last m.places)
+pub laid_out : (rules : Rules) → Lawful rules → (m : Machine) → Sound rules m → LaidOut m (file_of (length m.card) m.last m.places)
 laid_out rules lawful m s =
     let lies : (b p : ℕ) → get_or m.places b None ≡ Some p → p < length m.card =
     λ b p e. let g = s.opens b p e in (opened_parts rules lawful m.card p g.0 g.1).0 in

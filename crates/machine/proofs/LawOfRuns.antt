@@ -12,17 +12,17 @@ use Rattle.machine.specs.Machine.{Machine, Call, Read, Save, Face, Deed, Reason,
 use Rattle.machine.specs.Makings.{Making, Format, Resume, Open, make, resume}
 use Rattle.machine.specs.Checks.{first_that_holds, call_checks}
 use Rattle.machine.specs.Runs.{Run, Sealing, making_sealings, sealings_in, OfBytes, held_at, latest_in, transcript, after, next, blocks, first_face, first_counter, faces, beat_places, sealings, latest}
-use Rattle.machine.specs.Law.{Law, Alike, Begun, NoBeat, OnePut, RestKept, Laid_out, no_sealing}
+use Rattle.machine.specs.Law.{Law, Alike, Begun, NoBeat, OnePut, RestKept, LaidOut, no_sealing}
 use Rattle.machine.proofs.Invariant.{Sound, holds}
 use Rattle.machine.proofs.Steps.{Above, Quiet, Struck, Stepped, stepped, read_valued, granted_beat, granted_write}
-use Rattle.machine.proofs.Transcripts.{Numbered, numbered_getD, numbered_append, scan, scan_tells, Shows, ran, Kept, kept}
+use Rattle.machine.proofs.Transcripts.{Numbered, numbered_get_or, numbered_append, scan, scan_tells, Shows, ran, Kept, kept}
 use Rattle.machine.proofs.Granted.{format_passed, resume_passed}
 use Rattle.machine.proofs.Formats.{nowhere, vacant, length_dummies, face_dummies, dummies_sealed, numbered_format, length_format, sound_formatted, held_formatted}
 use Rattle.machine.proofs.Resumes.{size_resumed, placed, sound_resumed, held_resumed}
 use Rattle.machine.proofs.SavedFiles.{length_file, resumes}
 use Rattle.machine.proofs.FileBytes.{laid_out}
 use Rattle.machine.proofs.CallChecks.{Judged, reason_judged, own_judged, denied_judged, judged}
-use Rattle.machine.proofs.MakingChecks.{judged_making, reason_judged as reason-making, denied_judged as denied-making, fits}
+use Rattle.machine.proofs.MakingChecks.{judged_making, reason_judged as reason_making, denied_judged as denied_making, fits}
 use Rattle.machine.proofs.Turns.{turned, left}
 
 -- ---- the made machine
@@ -122,7 +122,7 @@ numbered_making rules card tape (Resume file) m e ss h = (m.last + 1, h)
 once : (n : ℕ) (ss : List Sealing) → Numbered n ss → (i j : ℕ) → i < length ss → j < length ss
     → ((get_or ss i no_sealing).counter ≡ (get_or ss j no_sealing).counter) ↔ (i ≡ j)
 once n ss h i j hi hj = (
-  (λ e. omega (arith, numbered_getD n ss i h hi, numbered_getD n ss j h hj)),
+  (λ e. omega (arith, numbered_get_or n ss i h hi, numbered_get_or n ss j h hj)),
   (λ e. ap (λ (k : ℕ). (get_or ss k no_sealing).counter) e),
 )
 
@@ -258,17 +258,17 @@ law_of_runs = record {
   beats_put_one_record = λ x c p counter deed e. put_one x.rules (after x) (next x c) p counter deed e (run_next x c).way;
   writes_keep_the_turn = λ x b value. turned (after x) b value;
   saves_leave_the_bytes_after = run_file;
-  saved_files_are_laid_out = λ x s n e. subst (Laid_out (after x)) (sym (run_filed x s n e).file) (laid_out x.rules x.lawful (after x) (run_kept x).sound);
+  saved_files_are_laid_out = λ x s n e. subst (LaidOut (after x)) (sym (run_filed x s n e).file) (laid_out x.rules x.lawful (after x) (run_kept x).sound);
   faces_are_shown = shown;
   others_keep_the_rest = λ x c h. kept_rest x.rules (after x) (next x c) h (run_next x c).way;
   looking_alters_nothing = λ x c. left x.rules x.lawful (after x) (run_kept x).sound c;
   denied_calls_alter_nothing = λ x c. denied_judged (after x) c (next x c) _ (run_judged x c);
-  makings_denied_by_the_first_check = λ rules card tape k. reason-making card tape (make rules card tape k) _ (judged_making card tape rules k);
+  makings_denied_by_the_first_check = λ rules card tape k. reason_making card tape (make rules card tape k) _ (judged_making card tape rules k);
   resumed_files_fit = fits;
   begins_as_made = run_begun;
   format_leaves_its_sealings = λ x n e. format_left x.rules x.card x.tape x.making x.made x.granted n e;
   resumed_is_saved = run_saved;
-  denied_makings_alter_nothing = λ rules card tape k. denied-making card tape (make rules card tape k) _ (judged_making card tape rules k);
+  denied_makings_alter_nothing = λ rules card tape k. denied_making card tape (make rules card tape k) _ (judged_making card tape rules k);
   open_stores_go_on = λ x c. refl;
   shut_stores_stay = λ rules r card tape c. refl;
 }

@@ -19,10 +19,10 @@ abbrev pub Numbered : ℕ → List Sealing → Type 0
 Numbered n [] = Unit {0}
 Numbered n (s ∷ ss) = (s.counter ≡ n) × Numbered (n + 1) ss
 
-pub numbered_getD : (n : ℕ) (ss : List Sealing) (i : ℕ) → Numbered n ss → i < length ss → (get_or ss i no_sealing).counter ≡ n + i
-numbered_getD n [] i h l = absurd (omega arith)
-numbered_getD n (s ∷ ss) zero h l = omega (arith, h.0)
-numbered_getD n (s ∷ ss) (suc i) h l = omega (arith, numbered_getD (n + 1) ss i h.1 (omega arith))
+pub numbered_get_or : (n : ℕ) (ss : List Sealing) (i : ℕ) → Numbered n ss → i < length ss → (get_or ss i no_sealing).counter ≡ n + i
+numbered_get_or n [] i h l = absurd (omega arith)
+numbered_get_or n (s ∷ ss) zero h l = omega (arith, h.0)
+numbered_get_or n (s ∷ ss) (suc i) h l = omega (arith, numbered_get_or (n + 1) ss i h.1 (omega arith))
 
 pub numbered_append : (n : ℕ) (ss ts : List Sealing) → Numbered n ss → Numbered (n + length ss) ts → Numbered n (ss ++ ts)
 numbered_append n [] ts h k = subst (λ (j : ℕ). Numbered j ts) (omega arith) k

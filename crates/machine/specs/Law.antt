@@ -106,7 +106,7 @@ abbrev pub number_at : Bytes → ℕ → ℕ
 number_at file i = number (take 2 (drop i file))
 
 -- a machine's map file: its sizes, the last counter, the landed blocks, and then the place of each
-pub record Laid_out (m : Machine) (file : Bytes) : Type 0 where
+pub record LaidOut (m : Machine) (file : Bytes) : Type 0 where
   pub blocks_told : number_at file 0 ≡ length m.places
   pub places_told : number_at file 2 ≡ length m.card
   pub landed_told : number_at file 4 ≡ length (landed_places m.places)
@@ -182,7 +182,7 @@ pub record Law : Type 0 where
   pub saves_leave_the_bytes_after : (x : Run) (s : Bytes) (n : ℕ) → (next x (Save s)).answer ≡ Saved n
       → (take n (next x (Save s)).buffer ≡ file_of (length x.card) (after x).last (after x).places) × (drop n (next x (Save s)).buffer ≡ drop n s)
   -- the file's numbers are the sizes, the last counter and each landed block with its place
-  pub saved_files_are_laid_out : (x : Run) (s : Bytes) (n : ℕ) → (next x (Save s)).answer ≡ Saved n → Laid_out (after x) (take n (next x (Save s)).buffer)
+  pub saved_files_are_laid_out : (x : Run) (s : Bytes) (n : ℕ) → (next x (Save s)).answer ≡ Saved n → LaidOut (after x) (take n (next x (Save s)).buffer)
   -- a face call into as many numbers as there are places shows the card's face
   pub faces_are_shown : (x : Run) (s : List ℕ) → length s ≡ length x.card → ((next x (Face s)).answer ≡ Shown) × ((next x (Face s)).buffer ≡ face (after x).card)
   -- a call that is no granted beat leaves the card, the places, the tape and the last counter

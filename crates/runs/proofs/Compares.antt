@@ -46,9 +46,9 @@ shown_alike t u (inr z) y alike =
 -- whichever runs show them
 by_the_law : (t u : Transcript) → ∥ ShownByAStore (notes_of t) ∥₁ → ∥ ShownByAStore (notes_of u) ∥₁ → BegunAlike t u
     → (faces_of t ≡ faces_of u) ↔ (places_of t ≡ places_of u)
-by_the_law t u shown-t shown-u alike = (
-  λ e. ∥∥₁_elim shown-t (is_set ℕ_set (places_of t) (places_of u)) (λ x. ∥∥₁_elim shown-u (is_set ℕ_set (places_of t) (places_of u)) (λ y. (shown_alike t u x y alike).0 e)),
-  λ e. ∥∥₁_elim shown-t (is_set (is_set ℕ_set) (faces_of t) (faces_of u)) (λ x. ∥∥₁_elim shown-u (is_set (is_set ℕ_set) (faces_of t) (faces_of u)) (λ y. (shown_alike t u x y alike).1 e)),
+by_the_law t u shown_t shown_u alike = (
+  λ e. ∥∥₁_elim shown_t (is_set ℕ_set (places_of t) (places_of u)) (λ x. ∥∥₁_elim shown_u (is_set ℕ_set (places_of t) (places_of u)) (λ y. (shown_alike t u x y alike).0 e)),
+  λ e. ∥∥₁_elim shown_t (is_set (is_set ℕ_set) (faces_of t) (faces_of u)) (λ x. ∥∥₁_elim shown_u (is_set (is_set ℕ_set) (faces_of t) (faces_of u)) (λ y. (shown_alike t u x y alike).1 e)),
 )
 
 -- ---- the verdicts
@@ -60,8 +60,8 @@ index OtherFaces = 2
 
 pub same_faces : (t u : Transcript) → ∥ ShownByAStore (notes_of t) ∥₁ → ∥ ShownByAStore (notes_of u) ∥₁ → BegunAlike t u
     → places_of t ≡ places_of u → Compared t u SameFaces
-same_faces t u shown-t shown-u alike same =
-    let law = by_the_law t u shown-t shown-u alike in
+same_faces t u shown_t shown_u alike same =
+    let law = by_the_law t u shown_t shown_u alike in
     record {
       begun_alike = (λ e. absurd (let h = ap index e in omega arith), λ h. absurd (h alike));
       faces = λ _. ((λ _. law.1 same, λ _. refl), (λ e. absurd (let h = ap index e in omega arith), λ h. absurd (h (law.1 same))));
@@ -71,8 +71,8 @@ same_faces t u shown-t shown-u alike same =
 
 pub other_faces : (t u : Transcript) → ∥ ShownByAStore (notes_of t) ∥₁ → ∥ ShownByAStore (notes_of u) ∥₁ → BegunAlike t u
     → (places_of t ≡ places_of u → ⊥) → Compared t u OtherFaces
-other_faces t u shown-t shown-u alike differ =
-    let law = by_the_law t u shown-t shown-u alike in
+other_faces t u shown_t shown_u alike differ =
+    let law = by_the_law t u shown_t shown_u alike in
     record {
       begun_alike = (λ e. absurd (let h = ap index e in omega arith), λ h. absurd (h alike));
       faces = λ _. ((λ e. absurd (let h = ap index e in omega arith), λ e. absurd (differ (law.0 e))), (λ _ e. differ (law.0 e), λ _. refl));

@@ -183,12 +183,12 @@ pub record Turned (rules : Rules) (s after : Store) (calls : List Call) (i : ℕ
 abbrev Noted : Rules → Store → Store → Call → Notes → Notes → Type 0
 Noted rules before after k t u = (after ≡ (call rules before (call_told k)).store) × OneMore k (call rules before (call_told k)) t u
 
-pub turned : {S : Type 0} (rules-of : S → Rules) (z y : S) (s before after : Store) (calls : List Call) (i : ℕ) (k : Call) (t u : Notes)
-    → z ≡ y → before ≡ left_on (rules-of y) s (map call_told (take i calls)) → length (vec_items t.answers) ≡ i → i < length calls
-    → Noted (rules-of z) before after k t u → take (i + 1) calls ≡ take i calls ++ k ∷ [] → Turned (rules-of y) s after calls i t u
-turned {S} rules-of z y s before after calls i k t u same e l h noted more =
-    let m = subst (λ (x : S). Noted (rules-of x) before after k t u) same noted in
-    let rules = rules-of y in
+pub turned : {S : Type 0} (rules_of : S → Rules) (z y : S) (s before after : Store) (calls : List Call) (i : ℕ) (k : Call) (t u : Notes)
+    → z ≡ y → before ≡ left_on (rules_of y) s (map call_told (take i calls)) → length (vec_items t.answers) ≡ i → i < length calls
+    → Noted (rules_of z) before after k t u → take (i + 1) calls ≡ take i calls ++ k ∷ [] → Turned (rules_of y) s after calls i t u
+turned {S} rules_of z y s before after calls i k t u same e l h noted more =
+    let m = subst (λ (x : S). Noted (rules_of x) before after k t u) same noted in
+    let rules = rules_of y in
     record {
       left = left_one_more rules s before after (take i calls) k e m.0 ∙ ap (λ (cs : List Call). left_on rules s (map call_told cs)) (sym more);
       count = m.1.answer_more ∙ ap (λ (n : ℕ). n + 1) l;
@@ -197,13 +197,13 @@ turned {S} rules-of z y s before after calls i k t u same e l h noted more =
     }
 
 -- and one that stops for want of memory
-pub stopped : {S : Type 0} (rules-of : S → Rules) (z y : S) (s before after : Store) (calls : List Call) (i : ℕ) (k : Call)
-    → z ≡ y → before ≡ left_on (rules-of y) s (map call_told (take i calls))
-    → (after ≡ before) ⊎ (after ≡ (call (rules-of z) before (call_told k)).store) → take (i + 1) calls ≡ take i calls ++ k ∷ []
-    → (n : ℕ) × (after ≡ left_on (rules-of y) s (map call_told (take n calls)))
-stopped rules-of z y s before after calls i k same e (inl h) more = (i, h ∙ e)
-stopped {S} rules-of z y s before after calls i k same e (inr h) more = (
+pub stopped : {S : Type 0} (rules_of : S → Rules) (z y : S) (s before after : Store) (calls : List Call) (i : ℕ) (k : Call)
+    → z ≡ y → before ≡ left_on (rules_of y) s (map call_told (take i calls))
+    → (after ≡ before) ⊎ (after ≡ (call (rules_of z) before (call_told k)).store) → take (i + 1) calls ≡ take i calls ++ k ∷ []
+    → (n : ℕ) × (after ≡ left_on (rules_of y) s (map call_told (take n calls)))
+stopped rules_of z y s before after calls i k same e (inl h) more = (i, h ∙ e)
+stopped {S} rules_of z y s before after calls i k same e (inr h) more = (
   i + 1,
-  left_one_more (rules-of y) s before after (take i calls) k e (subst (λ (x : S). after ≡ (call (rules-of x) before (call_told k)).store) same h)
-      ∙ ap (λ (cs : List Call). left_on (rules-of y) s (map call_told cs)) (sym more),
+  left_one_more (rules_of y) s before after (take i calls) k e (subst (λ (x : S). after ≡ (call (rules_of x) before (call_told k)).store) same h)
+      ∙ ap (λ (cs : List Call). left_on (rules_of y) s (map call_told cs)) (sym more),
 )

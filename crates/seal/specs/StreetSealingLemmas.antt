@@ -16,9 +16,9 @@ pub eight : (key : Bytes) (p n : ℕ) (covered : Bytes) → length (street_tag k
 unfolding street_tag
 eight key p n covered = length_little 8 (siphash key (tagged_bytes p n covered))
 
-pub fit : (body-key tag-key : Bytes) → Fit (street_cover body-key) (street_tag tag-key)
-fit body-key tag-key = record {
-  uncovers = λ p n body h. combined_twice body (keystream body-key p n) (long_enough body-key p n body h);
-  covers_all = λ p n body h. let e = length_combined body (keystream body-key p n) (long_enough body-key p n body h) in omega arith;
-  tags_eight = λ p n covered. eight tag-key p n covered;
+pub fit : (body_key tag_key : Bytes) → Fit (street_cover body_key) (street_tag tag_key)
+fit body_key tag_key = record {
+  uncovers = λ p n body h. combined_twice body (keystream body_key p n) (long_enough body_key p n body h);
+  covers_all = λ p n body h. let e = length_combined body (keystream body_key p n) (long_enough body_key p n body h) in omega arith;
+  tags_eight = λ p n covered. eight tag_key p n covered;
 }

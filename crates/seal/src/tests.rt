@@ -9,6 +9,7 @@ use std::test::Fail;
 
 fn tells<T: Drop>(
     rt: &impl Abort,
+    name: &str,
     answer: Result<T, SealFault>,
     number: u32,
     place: Option<Place>,
@@ -16,9 +17,9 @@ fn tells<T: Drop>(
     let Err(fault) = answer else {
         return Err(Fail::new("granted"));
     };
-    assert_eq!(rt; fault.number(), number);
-    assert_eq!(rt; fault.layer(), Layer::Seal);
-    assert_eq!(rt; fault.place(), place);
+    assert_eq!(rt; fault.number(), number, "{name}");
+    assert_eq!(rt; fault.layer(), Layer::Seal, "{name}");
+    assert_eq!(rt; fault.place(), place, "{name}");
     Ok(())
 }
 
@@ -32,6 +33,7 @@ fn opens_again_or_denies<S: Seal>(rt: &impl Abort, name: &str, seal: &S) -> Resu
     assert_eq!(rt; opened, body, "{name}");
     tells(
         rt,
+        name,
         seal.open(Place(6), &bytes, &mut opened),
         17,
         Some(Place(6)),
@@ -39,18 +41,21 @@ fn opens_again_or_denies<S: Seal>(rt: &impl Abort, name: &str, seal: &S) -> Resu
     bytes[63] ^= 1;
     tells(
         rt,
+        name,
         seal.open(Place(5), &bytes, &mut opened),
         17,
         Some(Place(5)),
     )?;
     tells(
         rt,
+        name,
         seal.open(Place(5), &bytes[0..63], &mut opened),
         16,
         None,
     )?;
     tells(
         rt,
+        name,
         seal.seal(Place(5), 1, &body[0..51], &mut bytes),
         16,
         None,

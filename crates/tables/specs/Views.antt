@@ -1,5 +1,5 @@
 -- What a position map and a waiting list hold, as the machine has them.
-use Rattle.std.specs.Prelude.{ℕ, suc, Bool, cond, ltb, List, [], ◌∷◌, ◌++◌, map, length, Some, None, Ok, Err, Option, Result, ◌==◌, nat_lt, slice_set}
+use Rattle.std.specs.Prelude.{ℕ, suc, Bool, cond, List, [], ◌∷◌, ◌++◌, map, length, Some, None, Ok, Err, Option, Result, ◌==◌, nat_lt, slice_set}
 use Rattle.std.specs.Option.{option_map}
 use Rattle.layout.specs.Numbers.{Bytes}
 use Rattle.layout.specs.declared.body.Body.{Body}
@@ -65,4 +65,4 @@ first_in (w ∷ ws) = Some w
 
 -- a block joins at the end, where fewer than sixteen wait
 abbrev pub join_of : List (ℕ × Bytes) → ℕ × Bytes → Bool × List (ℕ × Bytes)
-join_of ws w = let room = ltb (length ws) 16 in (room, cond room (ws ++ w ∷ []) ws)
+join_of ws w = let room = nat_lt (length ws) 16 in (room, cond room (ws ++ w ∷ []) ws)

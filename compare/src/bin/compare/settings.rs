@@ -30,7 +30,7 @@ impl Settings {
             seed: seed_of_the_clock(),
             runs: 10_000,
             threads: 2,
-            program: "target/bin/dock".into(),
+            program: "crates/dock/out/dock".into(),
             ends: None,
             vectors: None,
             failure: "target/compare-failure".into(),
