@@ -1,8 +1,8 @@
 -- The store's denials and deeds, as the machine has them.
-use Rattle.std.specs.Prelude.{ℕ, Some, None, Option}
+use Rattle.std.specs.Prelude.{ℕ, List, [], ◌++◌, Some, None, Option, codes, decimal}
 use Rattle.layout.specs.declared.names.Block.{Block}
 use Rattle.denial.specs.Denials as table
-use Rattle.denial.specs.Denials.{file_length, block_count, place_count, file_entry, counter_above, entry_unopened, entry_other, block_beyond, value_long, blocks_wait, buffer_length, list_full, counter_spent}
+use Rattle.denial.specs.Denials.{layer_name, file_length, block_count, place_count, file_entry, counter_above, entry_unopened, entry_other, block_beyond, value_long, blocks_wait, buffer_length, list_full, counter_spent}
 use Rattle.denial.specs.declared.Layer.{Layer}
 use Rattle.denial.specs.declared.Layer.TheVariants as layers
 use Rattle.card.specs.Faults.{card_denial}
@@ -56,6 +56,11 @@ reason_of (ByTape f) = DenialOf (tape_denial f)
 reason_of NoMemory = OutOfMemory
 
 -- what a reason tells
+abbrev pub reason_row : Reason → Option table.Denial
+reason_row (DenialOf d) = Some d
+reason_row (CausedBy d cause) = Some d
+reason_row OutOfMemory = None
+
 abbrev pub reason_number : Reason → Option ℕ
 reason_number (DenialOf d) = Some d.number
 reason_number (CausedBy d cause) = Some d.number
@@ -83,3 +88,27 @@ abbrev pub deed_told : Deed → machine.Deed
 deed_told Dummy = machine.Dummy
 deed_told (Landed b) = machine.Landed b.0
 deed_told (SealedAgain b) = machine.Resealed b.0
+
+-- ---- how they print
+
+abbrev pub deed_text : Deed → List ℕ
+deed_text Dummy = codes "dummy"
+deed_text (Landed b) = codes "landed " ++ decimal b.0
+deed_text (SealedAgain b) = codes "sealed-again " ++ decimal b.0
+
+abbrev pub place_text : Option ℕ → List ℕ
+place_text None = []
+place_text (Some p) = codes " place " ++ decimal p
+
+-- a denial of the table: `15 card place 3`
+abbrev pub table_text : table.Denial → List ℕ
+table_text d = decimal d.number ++ (codes " " ++ (layer_name d.layer ++ place_text d.place))
+
+-- a row and its cause: the denial that a row holds stands in brackets behind it; want of memory has no row
+abbrev pub denied_text : Option table.Denial → Option table.Denial → List ℕ
+denied_text None cause = codes "denied no memory"
+denied_text (Some d) None = codes "denied " ++ table_text d
+denied_text (Some d) (Some cause) = codes "denied " ++ (table_text d ++ (codes " (" ++ (table_text cause ++ codes ")")))
+
+abbrev pub reason_text : Reason → List ℕ
+reason_text r = denied_text (reason_row r) (reason_cause r)

@@ -1,9 +1,10 @@
-ghost use Rattle.std.specs.Prelude.{◌≡◌};
+ghost use Rattle.std.specs.Prelude.{◌≡◌, Some};
 ghost use Rattle.machine.specs.Machine.{deed_number, deed_block};
 ghost use Rattle.std.specs.Option.{option_map};
-ghost use Rattle.answers.specs.Told.{deed_told, block_number};
+ghost use Rattle.answers.specs.Told.{block_number, deed_text, deed_told};
 
 use layout::names::{Block, Place};
+use std::fmt;
 
 /// What a beat did at its place.
 #[derive(Clone, Copy, PartialEq, Eq, Debug)]
@@ -17,7 +18,7 @@ pub enum Deed {
 }
 
 impl Deed {
-    /// The deed's number: 0 dummy, 1 landed, 2 sealed again.
+    /// The deed's number, as the documents give it: 0 dummy, 1 landed, 2 sealed again. Code matches on the deed.
     pub fn number(&self) -> u32
         ensures { result ≡ deed_number (deed_told self.now) }
     {
@@ -36,6 +37,18 @@ impl Deed {
             Deed::Dummy => None,
             Deed::Landed(block) => Some(*block),
             Deed::SealedAgain(block) => Some(*block),
+        }
+    }
+}
+
+impl fmt::Display for Deed {
+    ghost output = { λ deed. Some (deed_text deed) };
+
+    fn fmt<W: fmt::Write>(&self, f: &mut fmt::Formatter<W>) -> fmt::Result {
+        match self {
+            Deed::Dummy => f.write_str("dummy"),
+            Deed::Landed(block) => write!(f, "landed {block}"),
+            Deed::SealedAgain(block) => write!(f, "sealed-again {block}"),
         }
     }
 }

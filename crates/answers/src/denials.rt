@@ -1,16 +1,17 @@
-ghost use Rattle.std.specs.Prelude.{◌≡◌};
+ghost use Rattle.std.specs.Prelude.{◌≡◌, Some};
 ghost use Rattle.std.specs.Option.{option_map};
-ghost use Rattle.denial.specs.Denials.{place_number};
+ghost use Rattle.denial.specs.Denials.{place_number, row_told};
 ghost use Rattle.seal.specs.Faults.{seal_denial};
 ghost use Rattle.answers.specs.declared.denials.Denial.TheVariants.{ByStore, ByCard, BySeal, ByTape, NoMemory};
-ghost use Rattle.answers.specs.Told.{reason_of, reason_number, reason_layer, reason_place, reason_cause};
+ghost use Rattle.answers.specs.Told.{reason_of, reason_row, reason_number, reason_layer, reason_place, reason_cause, reason_text};
 
 use crate::fault::StoreFault;
 use card::fault::CardFault;
-use denial::{Fault, Layer};
+use denial::{Fault, Layer, Row};
 use layout::names::Place;
 use seal::fault::SealFault;
 use std::alloc::AllocError;
+use std::fmt;
 use tape::fault::TapeFault;
 
 /// Why a call is refused: a denial of some layer, unaltered on its way up, or want of memory at the making.
@@ -24,29 +25,33 @@ pub enum Denial {
 }
 
 impl Denial {
+    /// The denial's row in the table; want of memory has none.
+    pub fn row(&self) -> Option<Row>
+        ensures { option_map row_told result ≡ reason_row (reason_of self.now) }
+    {
+        match self {
+            Denial::ByStore(fault) => Some(fault.row()),
+            Denial::ByCard(fault) => Some(fault.row()),
+            Denial::BySeal(fault) => Some(fault.row()),
+            Denial::ByTape(fault) => Some(fault.row()),
+            Denial::NoMemory => None,
+        }
+    }
+
     /// The denial's number; want of memory has none.
     pub fn number(&self) -> Option<u32>
         ensures { result ≡ reason_number (reason_of self.now) }
     {
-        match self {
-            Denial::ByStore(fault) => Some(fault.number()),
-            Denial::ByCard(fault) => Some(fault.number()),
-            Denial::BySeal(fault) => Some(fault.number()),
-            Denial::ByTape(fault) => Some(fault.number()),
-            Denial::NoMemory => None,
-        }
+        Some(self.row()?.number)
     }
 
     /// The layer that denies.
     pub fn layer(&self) -> Layer
         ensures { result ≡ reason_layer (reason_of self.now) }
     {
-        match self {
-            Denial::ByStore(fault) => fault.layer(),
-            Denial::ByCard(fault) => fault.layer(),
-            Denial::BySeal(fault) => fault.layer(),
-            Denial::ByTape(fault) => fault.layer(),
-            Denial::NoMemory => Layer::Store,
+        match self.row() {
+            Some(row) => row.layer,
+            None => Layer::Store,
         }
     }
 
@@ -54,13 +59,7 @@ impl Denial {
     pub fn place(&self) -> Option<Place>
         ensures { option_map place_number result ≡ reason_place (reason_of self.now) }
     {
-        match self {
-            Denial::ByStore(fault) => fault.place(),
-            Denial::ByCard(fault) => fault.place(),
-            Denial::BySeal(fault) => fault.place(),
-            Denial::ByTape(fault) => fault.place(),
-            Denial::NoMemory => None,
-        }
+        self.row()?.place
     }
 
     /// The seal's own denial, where this one holds it.
@@ -74,6 +73,22 @@ impl Denial {
     }
 }
 
+impl fmt::Display for Denial {
+    ghost output = { λ denial. Some (reason_text (reason_of denial)) };
+
+    fn fmt<W: fmt::Write>(&self, f: &mut fmt::Formatter<W>) -> fmt::Result {
+        let Some(row) = self.row() else {
+            return f.write_str("denied no memory");
+        };
+        write!(f, "denied {row}")?;
+        if let Some(cause) = self.cause() {
+            write!(f, " ({})", cause.row())?;
+        }
+        Ok(())
+    }
+}
+
+// By hand: the `From` of a derive has no clause, and contracts name the denial that a `?` makes.
 impl From<StoreFault> for Denial {
     ghost from_gives = { λ f d. d ≡ ByStore f };
 

@@ -1,6 +1,6 @@
 ghost use Rattle.answers.specs.Told.{store_denial};
 
-use denial::{Fault, Layer};
+use denial::{Fault, Layer, Row};
 use layout::names::Place;
 use seal::fault::SealFault;
 
@@ -38,34 +38,27 @@ pub enum StoreFault {
 impl Fault for StoreFault {
     ghost denial = { store_denial };
 
-    fn number(&self) -> u32 {
-        match self {
-            StoreFault::FileLength => 1,
-            StoreFault::BlockCount => 2,
-            StoreFault::PlaceCount => 3,
-            StoreFault::FileEntry => 4,
-            StoreFault::CounterAbove(_) => 5,
-            StoreFault::Unopened(_, _) => 6,
-            StoreFault::OtherBlock(_) => 7,
-            StoreFault::BlockBeyond => 8,
-            StoreFault::ValueLong => 9,
-            StoreFault::BlocksWait => 10,
-            StoreFault::BufferLength => 11,
-            StoreFault::ListFull => 12,
-            StoreFault::CounterSpent => 14,
-        }
-    }
-
-    fn layer(&self) -> Layer {
-        Layer::Store
-    }
-
-    fn place(&self) -> Option<Place> {
-        match self {
-            StoreFault::CounterAbove(place) => Some(*place),
-            StoreFault::Unopened(place, _) => Some(*place),
-            StoreFault::OtherBlock(place) => Some(*place),
-            _ => None,
+    // The numbers are the table's, which people and scripts read.
+    fn row(&self) -> Row {
+        let (number, place) = match self {
+            StoreFault::FileLength => (1, None),
+            StoreFault::BlockCount => (2, None),
+            StoreFault::PlaceCount => (3, None),
+            StoreFault::FileEntry => (4, None),
+            StoreFault::CounterAbove(place) => (5, Some(*place)),
+            StoreFault::Unopened(place, _) => (6, Some(*place)),
+            StoreFault::OtherBlock(place) => (7, Some(*place)),
+            StoreFault::BlockBeyond => (8, None),
+            StoreFault::ValueLong => (9, None),
+            StoreFault::BlocksWait => (10, None),
+            StoreFault::BufferLength => (11, None),
+            StoreFault::ListFull => (12, None),
+            StoreFault::CounterSpent => (14, None),
+        };
+        Row {
+            number,
+            layer: Layer::Store,
+            place,
         }
     }
 }

@@ -2,7 +2,7 @@
 use Rattle.std.specs.Prelude.{ℕ, zero, suc, List, [], ◌∷◌, ◌++◌, replicate, Some, None, Option}
 use Rattle.std.specs.List.{flat_map}
 use Rattle.machine.specs.Machine.{Call, Write, Read, Beat, Save}
-use Rattle.bookings.specs.declared.days.Booking.{Booking}
+use Rattle.example.specs.declared.booking.Booking.{Booking}
 
 -- the booking's write
 abbrev pub written : Option Booking → List Call

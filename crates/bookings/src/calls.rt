@@ -3,10 +3,12 @@ ghost use Rattle.machine.specs.Machine.{Beat};
 ghost use Rattle.runs.specs.Told.{call_told};
 ghost use Rattle.bookings.specs.Days.{written, all_reads, day_calls};
 
-use crate::days::{BLOCKS, Booking, HOURLY, NIGHTLY};
+use crate::days::{BLOCKS, HOURLY, NIGHTLY};
+use example::booking::Booking;
 use layout::names::Block;
 use runs::calls::Call;
 use std::alloc::{AllocError, Global};
+use std::iter::repeat_n;
 
 /// As long as the longest map file.
 const FILE_LEN: usize = 2058;
@@ -50,8 +52,5 @@ fn push_booking(calls: &mut Vec<Call<'static>>, hour: &Option<Booking>) -> Resul
 fn push_beats(calls: &mut Vec<Call<'static>>, count: u32) -> Result<(), AllocError>
     ensures { OnOk result (map call_told calls.new.items ≡ map call_told calls.old.items ++ replicate count Beat) }
 {
-    for _beat in 0..count {
-        calls.push(Call::Beat)?;
-    }
-    Ok(())
+    calls.extend(repeat_n(Call::Beat, count as usize))
 }

@@ -1,12 +1,6 @@
 //! The bookings of the two days, and the size of a day.
+use example::booking::Booking;
 use layout::names::Block;
-
-/// A booking: the block that keeps it, and its text.
-#[derive(Clone, Copy)]
-pub struct Booking {
-    pub block: Block,
-    pub text: &'static str,
-}
 
 pub const PLACES: u32 = 32;
 

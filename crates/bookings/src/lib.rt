@@ -1,6 +1,8 @@
-//! Two days of bookings at a dock, with their keys, and the calls of a day as a list.
+//! Two days of bookings at a dock, the calls of a day as a list, and how calls are run under keys.
 #![tactic(auto)]
 
 pub mod calls;
 pub mod days;
-pub mod keys;
+pub mod keyed;
+#[cfg(test)]
+mod tests;

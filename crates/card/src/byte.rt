@@ -2,7 +2,7 @@
 ghost use Rattle.std.specs.Prelude.{◌≡◌, ◌<◌, [], length, slice_index_or, slice_set};
 ghost use Rattle.denial.specs.Denials.{told};
 ghost use Rattle.card.specs.Faults.{card_denial};
-ghost use Rattle.card.specs.Cards.{put_of};
+ghost use Rattle.card.specs.Cards.{allowed, put_of};
 ghost use Rattle.card.specs.Kinds.{byte_records, byte_rest};
 ghost use Rattle.card.specs.Pieces.{bytes_few, bytes_whole};
 
@@ -13,6 +13,7 @@ use layout::names::Place;
 
 /// A card whose records lie one after another in lent bytes, 64 bytes each.
 /// Bytes after the last whole record, and after the 65,536th, belong to no record.
+// No `impl Model`: that the bytes are those lent is a fact of the reference, which no value of a model has.
 #[derive(Drop)]
 pub struct ByteCard<'a> {
     bytes: &'a mut [u8],
@@ -25,6 +26,19 @@ impl<'a> ByteCard<'a> {
         ensures bytes_are_those_lent { result.bytes.ghost_name ≡ bytes.entry.ghost_name }
     {
         Self { bytes }
+    }
+
+    /// Whether so many bytes may be got from, or put at, a place.
+    fn allow(&self, at: Place, len: usize) -> Result<(), CardFault>
+        ensures { told card_denial result ≡ allowed (byte_records self.now.bytes.now) at.0 len }
+    {
+        if at.0 >= self.count() {
+            return Err(CardFault::Beyond(at));
+        }
+        if len != RECORD_LEN {
+            return Err(CardFault::Size);
+        }
+        Ok(())
     }
 
     /// Copies the record at a place into a buffer for one.
@@ -61,12 +75,7 @@ impl Card for ByteCard<'_> {
     }
 
     fn get(&self, at: Place, buffer: &mut [u8]) -> Result<(), CardFault> {
-        if at.0 >= self.count() {
-            return Err(CardFault::Beyond(at));
-        }
-        if buffer.len() != RECORD_LEN {
-            return Err(CardFault::Size);
-        }
+        self.allow(at, buffer.len())?;
         self.read(at, buffer);
         Ok(())
     }
@@ -77,12 +86,7 @@ impl Card for ByteCard<'_> {
         ensures length_stays { length self.new.bytes.now ≡ length self.old.bytes.now }
         ensures bytes_are_those_lent { self.new.bytes.ghost_name ≡ self.old.bytes.ghost_name }
     {
-        if at.0 >= self.count() {
-            return Err(CardFault::Beyond(at));
-        }
-        if bytes.len() != RECORD_LEN {
-            return Err(CardFault::Size);
-        }
+        self.allow(at, bytes.len())?;
         self.write(at, bytes);
         Ok(())
     }

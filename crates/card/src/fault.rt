@@ -1,6 +1,6 @@
 ghost use Rattle.card.specs.Faults.{card_denial};
 
-use denial::{Fault, Layer};
+use denial::{Fault, Layer, Row};
 use layout::names::Place;
 
 /// Why a card denies.
@@ -15,21 +15,16 @@ pub enum CardFault {
 impl Fault for CardFault {
     ghost denial = { card_denial };
 
-    fn number(&self) -> u32 {
-        match self {
-            CardFault::Beyond(_) => 15,
-            CardFault::Size => 16,
-        }
-    }
-
-    fn layer(&self) -> Layer {
-        Layer::Card
-    }
-
-    fn place(&self) -> Option<Place> {
-        match self {
-            CardFault::Beyond(place) => Some(*place),
-            CardFault::Size => None,
+    // The numbers are the table's, which people and scripts read.
+    fn row(&self) -> Row {
+        let (number, place) = match self {
+            CardFault::Beyond(place) => (15, Some(*place)),
+            CardFault::Size => (16, None),
+        };
+        Row {
+            number,
+            layer: Layer::Card,
+            place,
         }
     }
 }

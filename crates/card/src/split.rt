@@ -70,17 +70,15 @@ impl<C: Card, D: Card> Card for SplitCard<C, D> {
 
     fn get(&self, at: Place, buffer: &mut [u8]) -> Result<(), CardFault> {
         match self.locate(at)? {
-            Half::Even(place) => self.even.get(place, buffer)?,
-            Half::Odd(place) => self.odd.get(place, buffer)?,
+            Half::Even(place) => self.even.get(place, buffer),
+            Half::Odd(place) => self.odd.get(place, buffer),
         }
-        Ok(())
     }
 
     fn put(&mut self, at: Place, bytes: &[u8]) -> Result<(), CardFault> {
         match self.locate(at)? {
-            Half::Even(place) => self.even.put(place, bytes)?,
-            Half::Odd(place) => self.odd.put(place, bytes)?,
+            Half::Even(place) => self.even.put(place, bytes),
+            Half::Odd(place) => self.odd.put(place, bytes),
         }
-        Ok(())
     }
 }

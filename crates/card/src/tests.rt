@@ -36,6 +36,7 @@ fn the_place_is_tested_before_the_size(rt: HostRuntime) -> Result<(), Fail> {
     tells(&rt, card.put(Place(1), &short), 16, None)
 }
 
+// A crate for one helper of three tests would be no plainer.
 fn tells(
     rt: &impl Abort,
     answer: Result<(), CardFault>,

@@ -61,13 +61,11 @@ impl<C: Card> Card for WindowCard<C> {
 
     fn get(&self, at: Place, buffer: &mut [u8]) -> Result<(), CardFault> {
         let below = self.locate(at)?;
-        self.below.get(below, buffer)?;
-        Ok(())
+        self.below.get(below, buffer)
     }
 
     fn put(&mut self, at: Place, bytes: &[u8]) -> Result<(), CardFault> {
         let below = self.locate(at)?;
-        self.below.put(below, bytes)?;
-        Ok(())
+        self.below.put(below, bytes)
     }
 }

@@ -3,6 +3,8 @@ ghost use Rattle.std.specs.Prelude.{◌≡◌, ℕ, ◌+◌, ◌<◌, ◌≤◌,
 ghost use Rattle.std.specs.Simd.Lanes.{zip2};
 ghost use Rattle.cipher.specs.Chacha20.{add32, add_xor_roll_of, quarter_round_of, column_round_of, diagonal_round_of, double_rounds, word_at, initial_state_of, block_words, serialised as serialised_words, block};
 
+use std::array;
+
 /// One line of the quarter round: `a += b; d ^= a; d <<<= n`.
 fn add_xor_roll(s: &mut [u32; 16], a: usize, b: usize, d: usize, n: u32)
     requires { (a < 16) × ((b < 16) × ((d < 16) × ((0 < n) × (n < 32)))) }
@@ -22,6 +24,8 @@ fn quarter_round(s: &mut [u32; 16], a: usize, b: usize, c: usize, d: usize)
     add_xor_roll(s, c, d, b, 7);
 }
 
+// One function over a table of lanes takes more than three times as long, and every beat seals; so the two rounds are
+// written out.
 fn column_round(s: &mut [u32; 16])
     ensures { s.new ≡ column_round_of s.old }
 {
@@ -49,53 +53,43 @@ fn ten_double_rounds(s: &mut [u32; 16])
     }
 }
 
-fn word(bytes: &[u8], i: usize) -> u32
-    requires { i + 4 ≤ length bytes.now }
-    ensures { result ≡ word_at bytes.now i }
-{
-    u32::from_le_bytes([bytes[i], bytes[i + 1], bytes[i + 2], bytes[i + 3]])
-}
-
 fn initial_state(key: &[u8; 32], counter: u32, nonce: &[u8; 12]) -> [u32; 16]
     ensures { result ≡ initial_state_of key.now counter nonce.now }
 {
+    let (key, _) = key.as_chunks::<4>();
+    let (nonce, _) = nonce.as_chunks::<4>();
     [
         0x61707865,
         0x3320646e,
         0x79622d32,
         0x6b206574,
-        word(key, 0),
-        word(key, 4),
-        word(key, 8),
-        word(key, 12),
-        word(key, 16),
-        word(key, 20),
-        word(key, 24),
-        word(key, 28),
+        u32::from_le_bytes(key[0]),
+        u32::from_le_bytes(key[1]),
+        u32::from_le_bytes(key[2]),
+        u32::from_le_bytes(key[3]),
+        u32::from_le_bytes(key[4]),
+        u32::from_le_bytes(key[5]),
+        u32::from_le_bytes(key[6]),
+        u32::from_le_bytes(key[7]),
         counter,
-        word(nonce, 0),
-        word(nonce, 4),
-        word(nonce, 8),
+        u32::from_le_bytes(nonce[0]),
+        u32::from_le_bytes(nonce[1]),
+        u32::from_le_bytes(nonce[2]),
     ]
 }
 
 fn sums(a: &[u32; 16], b: &[u32; 16]) -> [u32; 16]
     ensures { result ≡ zip2 add32 a.now b.now }
 {
-    let mut out = [0; 16];
-    for i in 0..16 {
-        out[i] = a[i].wrapping_add(b[i]);
-    }
-    out
+    array::from_fn(|i| a[i].wrapping_add(b[i]))
 }
 
 fn serialised(words: &[u32; 16]) -> [u8; 64]
     ensures { result ≡ serialised_words words.now }
 {
+    let bytes = words.map(u32::to_le_bytes);
     let mut out = [0; 64];
-    for i in 0..16 {
-        out[4 * i..4 * i + 4].copy_from_slice(&words[i].to_le_bytes());
-    }
+    out.copy_from_slice(bytes.as_flattened());
     out
 }
 

@@ -11,6 +11,7 @@ fn siphash24_answer_stands()
 {}
 
 /// Holds two theorems in its contract: a published answer of each definition.
+// A number, so that there is a body which a wrong version can turn.
 pub fn known_answers_stand() -> u8
     ensures zero { result ≡ 0 }
     ensures chacha20 { ChaCha20Known }

@@ -15,8 +15,9 @@ impl SipState {
     fn new(key: &[u8; 16]) -> SipState
         ensures { result ≡ initialised key.now }
     {
-        let k0 = word(key, 0);
-        let k1 = word(key, 8);
+        let (words, _) = key.as_chunks::<8>();
+        let k0 = u64::from_le_bytes(words[0]);
+        let k1 = u64::from_le_bytes(words[1]);
         SipState {
             v0: k0 ^ 0x736f6d6570736575,
             v1: k1 ^ 0x646f72616e646f6d,
@@ -58,9 +59,10 @@ impl SipState {
     fn compress_words(self, message: &[u8]) -> SipState
         ensures { result ≡ compressed_words message.now (length message.now / 8) self }
     {
+        let (words, _) = message.as_chunks::<8>();
         let mut state = self;
-        for i in 0..message.len() / 8 {
-            state = state.compress(word(message, i * 8));
+        for word in words {
+            state = state.compress(u64::from_le_bytes(*word));
         }
         state
     }
@@ -77,51 +79,15 @@ impl SipState {
     }
 }
 
-fn word(bytes: &[u8], i: usize) -> u64
-    requires { i + 8 ≤ length bytes.now }
-    ensures { result ≡ word_at bytes.now i }
-{
-    u64::from_le_bytes([
-        bytes[i],
-        bytes[i + 1],
-        bytes[i + 2],
-        bytes[i + 3],
-        bytes[i + 4],
-        bytes[i + 5],
-        bytes[i + 6],
-        bytes[i + 7],
-    ])
-}
-
-fn byte_or_zero(bytes: &[u8], i: usize) -> u8
-    ensures { result ≡ slice_index bytes.now i }
-{
-    if i < bytes.len() { bytes[i] } else { 0 }
-}
-
-/// The fewer than eight bytes from `i` on, with zeros above them.
-fn rest(bytes: &[u8], i: usize) -> u64
-    requires { (length bytes.now ≤ i + 7) × (i ≤ length bytes.now) }
-    ensures value { result ≡ number (drop i bytes.now) }
-    ensures small { result < 2 ^ 56 }
-{
-    u64::from_le_bytes([
-        byte_or_zero(bytes, i),
-        byte_or_zero(bytes, i + 1),
-        byte_or_zero(bytes, i + 2),
-        byte_or_zero(bytes, i + 3),
-        byte_or_zero(bytes, i + 4),
-        byte_or_zero(bytes, i + 5),
-        byte_or_zero(bytes, i + 6),
-        0,
-    ])
-}
-
+/// The fewer than eight bytes past the last whole word, and at the top the length.
 fn last_word(message: &[u8]) -> u64
     ensures { result ≡ last_word message.now }
 {
-    let length = message.len();
-    rest(message, length / 8 * 8) + (((length % 256) as u64) << 56)
+    let (_, rest) = message.as_chunks::<8>();
+    let mut word = [0; 8];
+    word[0..rest.len()].copy_from_slice(rest);
+    word[7] = (message.len() % 256) as u8;
+    u64::from_le_bytes(word)
 }
 
 /// The tag of `message` under `key`.

@@ -1,6 +1,6 @@
 //! Two copies of one card, compared as anyone can: record by record, by the clear counters.
-use crate::files::read_file;
 use crate::trouble::Trouble;
+use console::files::read_file;
 use layout::records::clear_counter;
 use std::io;
 
@@ -37,10 +37,8 @@ pub(crate) fn show_changes<'a>(
 /// A line for each place whose record changed.
 fn show_places(rt: &HostRuntime, olds: &[[u8; 64]], news: &[[u8; 64]]) -> io::Result<Count> {
     let mut count = Count { changed: 0, odd: 0 };
-    for (place, (old, new)) in olds.iter().zip(news.iter()).enumerate() {
-        if old == new {
-            continue;
-        }
+    let records = olds.iter().zip(news.iter()).enumerate();
+    for (place, (old, new)) in records.filter(|(_, (old, new))| old != new) {
         let before = clear_counter(old);
         let after = clear_counter(new);
         count.changed = count.changed.saturating_add(1);

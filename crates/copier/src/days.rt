@@ -1,62 +1,55 @@
 //! The two days of bookings, under the hiding store and under a plain one, and their picture.
-use crate::files::replace_file;
 use crate::picture::Picture;
 use crate::strip::Mark;
 use crate::trouble::Trouble;
 use answers::denials::Denial;
 use bookings::calls::calls_of_day;
-use bookings::days::{BEATS, BLOCKS, Booking, FIRST_DAY, HOURLY, IMAGE_LEN, SECOND_DAY};
-use bookings::keys::EXAMPLE_KEYS;
-use card::byte::ByteCard;
+use bookings::days::{BEATS, BLOCKS, FIRST_DAY, HOURLY, IMAGE_LEN, SECOND_DAY};
+use bookings::keyed::run_keyed;
+use console::files::replace_file;
+use example::booking::Booking;
+use example::keys::EXAMPLE_KEYS;
 use runs::calls::{Call, Making};
 use runs::compare::{Verdict, compare};
-use runs::run::run;
 use runs::transcript::{Ran, Transcript};
-use seal::street::StreetSeal;
-use std::alloc::Global;
-use tape::keyed::KeyedTape;
+use std::alloc::{AllocError, Global};
 
-/// A making and a day's calls of the hiding store, on an empty card: what they show.
-fn run_day(heap: Global, making: Making<'_>, calls: &[Call<'_>]) -> Result<Transcript, Denial> {
-    let keys = EXAMPLE_KEYS;
+/// A day's calls of the hiding store, on an empty card: what they show.
+fn run_day(heap: Global, calls: &[Call<'_>]) -> Result<Transcript, Denial> {
     let mut image = [0; IMAGE_LEN];
-    let card = ByteCard::new(&mut image);
-    let seal = StreetSeal::new(keys.body, keys.tag);
-    let tape = KeyedTape::new(keys.tape, keys.nonce, BEATS);
-    let Ran { store, transcript } = run(heap, card, seal, tape, &making, calls);
-    let made = store.answer();
-    drop(store);
-    made?;
-    match transcript {
-        Ok(transcript) => Ok(transcript),
-        Err(_) => Err(Denial::NoMemory),
-    }
+    let making = Making::Format(BLOCKS);
+    let Ran { store, transcript } = run_keyed(
+        heap,
+        &EXAMPLE_KEYS,
+        &mut image,
+        BEATS,
+        &making,
+        calls,
+    );
+    store.answer()?;
+    Ok(transcript?)
 }
 
 /// The hiding store's marks: one a beat, at the beat's place.
-fn hidden_marks(heap: Global, shown: &Transcript) -> Result<Vec<Mark>, Trouble<'static>> {
-    let mut marks = Vec::new(heap);
-    for (beat, place) in shown.places.iter().enumerate() {
-        marks.push(Mark {
-            beat,
-            place: place.0,
-        })?;
-    }
-    Ok(marks)
+fn hidden_marks(heap: Global, shown: &Transcript) -> Result<Vec<Mark>, AllocError> {
+    let places = shown.notes.places.iter().enumerate();
+    let marks = places.map(|(beat, place)| Mark {
+        beat,
+        place: place.0,
+    });
+    marks.collect(heap)
 }
 
 /// A plain store's marks: each booking at once, in its block's own place, as its hour begins.
-fn plain_marks(heap: Global, day: &[Option<Booking>]) -> Result<Vec<Mark>, Trouble<'static>> {
-    let mut marks = Vec::new(heap);
-    for (hour, booking) in day.iter().enumerate() {
-        if let Some(booking) = booking {
-            marks.push(Mark {
-                beat: hour.saturating_mul(HOURLY as usize),
-                place: booking.block.0,
-            })?;
-        }
-    }
-    Ok(marks)
+fn plain_marks(heap: Global, day: &[Option<Booking>]) -> Result<Vec<Mark>, AllocError> {
+    let hours = (0usize..).step_by(HOURLY as usize).zip(day);
+    let marks = hours.filter_map(|(beat, booking)| {
+        booking.map(|booking| Mark {
+            beat,
+            place: booking.block.0,
+        })
+    });
+    marks.collect(heap)
 }
 
 /// Draws two days in a file, and tells what the copier sees of them.
@@ -69,8 +62,8 @@ fn draw<'a>(
     let heap = rt.alloc();
     let calls = calls_of_day(heap, day)?;
     let other_calls = calls_of_day(heap, other_day)?;
-    let first = run_day(heap, Making::Format(BLOCKS), calls.as_slice())?;
-    let second = run_day(heap, Making::Format(BLOCKS), other_calls.as_slice())?;
+    let first = run_day(heap, calls.as_slice())?;
+    let second = run_day(heap, other_calls.as_slice())?;
     let Verdict::SameFaces = compare(&first, &second) else {
         return Err(Trouble::OtherFaces);
     };
@@ -83,7 +76,7 @@ fn draw<'a>(
         plain: [plain.as_slice(), plain_other.as_slice()],
     };
     let drawn = format!(in heap; "{picture}")?;
-    replace_file(rt, path, drawn.as_str())?;
+    replace_file(rt, path, drawn.as_bytes())?;
     let (beats, one, other) = (hidden.len(), plain.len(), plain_other.len());
     println!(rt; "{path}: two days with different bookings, as the copier sees them")?;
     println!(rt;

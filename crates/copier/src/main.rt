@@ -3,7 +3,6 @@
 
 mod changes;
 mod days;
-mod files;
 mod options;
 mod picture;
 mod strip;
@@ -11,21 +10,13 @@ mod trouble;
 mod usage;
 
 use changes::show_changes;
+use console::ending::exit_code;
+use console::words::read_words;
 use days::draw_days;
 use options::{Task, task_of};
-use std::env;
 use std::process::ExitCode;
 use trouble::Trouble;
 use usage::USAGE;
-
-/// The words of the command line, without the program's name.
-fn read_words(rt: &HostRuntime) -> Result<Vec<String>, Trouble<'static>> {
-    let mut words = Vec::new(rt.alloc());
-    for word in env::args(rt)?.skip(1) {
-        words.push(word)?;
-    }
-    Ok(words)
-}
 
 fn run<'a>(rt: &HostRuntime, words: &'a [String]) -> Result<(), Trouble<'a>> {
     match task_of(words)? {
@@ -36,20 +27,10 @@ fn run<'a>(rt: &HostRuntime, words: &'a [String]) -> Result<(), Trouble<'a>> {
     Ok(())
 }
 
+// What goes wrong borrows the words, so that no function over both programs can name its type.
 fn main(rt: HostRuntime) -> ExitCode {
     match read_words(&rt) {
-        Ok(words) => tell(&rt, run(&rt, words.as_slice())),
-        Err(trouble) => tell(&rt, Err(trouble)),
-    }
-}
-
-/// Tells what went wrong, on standard error, and what the process ends with.
-fn tell(rt: &HostRuntime, done: Result<(), Trouble<'_>>) -> ExitCode {
-    match done {
-        Ok(()) => ExitCode::SUCCESS,
-        Err(trouble) => {
-            let _ = eprintln!(rt; "copier: {trouble}");
-            ExitCode::FAILURE
-        }
+        Ok(words) => exit_code(&rt, "copier", run(&rt, words.as_slice())),
+        Err(failure) => exit_code(&rt, "copier", Err(failure)),
     }
 }

@@ -1,7 +1,9 @@
 -- The one table of denials: the number, the layer and the place of each.
-use Rattle.std.specs.Prelude.{ℕ, Some, None, Ok, Err, Option, Result}
+use Rattle.std.specs.Prelude.{ℕ, List, [], ◌++◌, Some, None, Ok, Err, Option, Result, codes, decimal}
+use Rattle.std.specs.Option.{option_map}
 use Rattle.layout.specs.declared.names.Place.{Place}
 use Rattle.denial.specs.declared.Layer.{Layer}
+use Rattle.denial.specs.declared.Row.{Row}
 use Rattle.denial.specs.declared.Layer.TheVariants.{Store, Card, Seal, Tape}
 
 pub record Denial : Type 0 where
@@ -85,6 +87,20 @@ wrong_size layer = record { number = 16; layer = layer; place = None }
 abbrev pub wrong_tag : ℕ → Denial
 wrong_tag p = record { number = 17; layer = Seal; place = Some p }
 
+-- how a layer prints, and a row: `15 card place 3` or `16 card`
+abbrev pub layer_name : Layer → List ℕ
+layer_name Store = codes "store"
+layer_name Card = codes "card"
+layer_name Seal = codes "seal"
+layer_name Tape = codes "tape"
+
+abbrev pub place_text : Option Place → List ℕ
+place_text None = []
+place_text (Some p) = codes " place " ++ decimal p.0
+
+abbrev pub row_text : Row → List ℕ
+row_text r = decimal r.number ++ (codes " " ++ (layer_name r.layer ++ place_text r.place))
+
 -- an answer with its fault told as a denial
 abbrev pub told : {T F : Type 0} → (F → Denial) → Result T F → Result T Denial
 told denial (Ok x) = Ok x
@@ -92,3 +108,7 @@ told denial (Err f) = Err (denial f)
 
 abbrev pub place_number : Place → ℕ
 place_number p = p.0
+
+-- the denial that a row of the table tells
+abbrev pub row_told : Row → Denial
+row_told r = record { number = r.number; layer = r.layer; place = option_map place_number r.place }

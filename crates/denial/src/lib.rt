@@ -1,9 +1,9 @@
 //! What a denial tells: its number, its layer and, for some, a place.
 #![tactic(auto)]
 
-ghost use Rattle.std.specs.Prelude.{◌≡◌};
+ghost use Rattle.std.specs.Prelude.{◌≡◌, Some};
 ghost use Rattle.std.specs.Option.{option_map};
-ghost use Rattle.denial.specs.Denials.{Denial, place_number};
+ghost use Rattle.denial.specs.Denials.{Denial, layer_name, place_number, row_text, row_told};
 
 use layout::names::Place;
 use std::fmt;
@@ -18,6 +18,8 @@ pub enum Layer {
 }
 
 impl fmt::Display for Layer {
+    ghost output = { λ layer. Some (layer_name layer) };
+
     fn fmt<W: fmt::Write>(&self, f: &mut fmt::Formatter<W>) -> fmt::Result {
         f.write_str(match self {
             Layer::Store => "store",
@@ -28,17 +30,50 @@ impl fmt::Display for Layer {
     }
 }
 
+/// A denial's row in the one table. The number is the table's, which people and scripts read; code tells denials
+/// apart by the enums of the faults.
+#[derive(Clone, Copy, PartialEq, Eq, Debug)]
+pub struct Row {
+    pub number: u32,
+    pub layer: Layer,
+    pub place: Option<Place>,
+}
+
+impl fmt::Display for Row {
+    ghost output = { λ row. Some (row_text row) };
+
+    fn fmt<W: fmt::Write>(&self, f: &mut fmt::Formatter<W>) -> fmt::Result {
+        write!(f, "{} {}", self.number, self.layer)?;
+        if let Some(place) = self.place {
+            write!(f, " place {place}")?;
+        }
+        Ok(())
+    }
+}
+
 /// A layer's own fault, which tells a denial of the one table.
 pub trait Fault {
     ghost denial: { Self → Denial };
 
-    fn number(&self) -> u32
-        ensures { result ≡ (denial self.now).number };
+    fn row(&self) -> Row
+        ensures { row_told result ≡ denial self.now };
 
-    fn layer(&self) -> Layer
-        ensures { result ≡ (denial self.now).layer };
+    final fn number(&self) -> u32
+        ensures { result ≡ (denial self.now).number }
+    {
+        self.row().number
+    }
+
+    final fn layer(&self) -> Layer
+        ensures { result ≡ (denial self.now).layer }
+    {
+        self.row().layer
+    }
 
     /// The place, where the denial names one.
-    fn place(&self) -> Option<Place>
-        ensures { option_map place_number result ≡ (denial self.now).place };
+    final fn place(&self) -> Option<Place>
+        ensures { option_map place_number result ≡ (denial self.now).place }
+    {
+        self.row().place
+    }
 }

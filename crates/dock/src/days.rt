@@ -1,36 +1,31 @@
 //! Two days: other bookings on the same tape, and a store resumed after each.
 use crate::booked::booked;
-use crate::files::{read_file, replace_file};
 use crate::keys::show_keys;
 use crate::tally::Tally;
 use crate::trouble::Trouble;
 use bookings::calls::{calls_of_day, push_reads};
-use bookings::days::{BEATS, BLOCKS, Booking, FIRST_DAY, IMAGE_LEN, PLACES, SECOND_DAY};
-use bookings::keys::{EXAMPLE_KEYS, Keys};
-use card::byte::ByteCard;
-use layout::names::Block;
+use bookings::days::{BEATS, BLOCKS, FIRST_DAY, IMAGE_LEN, PLACES, SECOND_DAY};
+use bookings::keyed::run_keyed;
+use console::bytes::Text;
+use console::files::{read_file, replace_file};
+use example::booking::Booking;
+use example::keys::EXAMPLE_KEYS;
 use lines::reply::Reply;
-use lines::text::Text;
-use runs::calls::{Answer, Call, Making};
+use runs::calls::{Answer, Call, Granted, Making};
 use runs::compare::{Verdict, compare};
-use runs::run::run;
 use runs::transcript::{Ran, Transcript};
-use seal::street::StreetSeal;
-use std::alloc::Global;
-use tape::keyed::KeyedTape;
+use std::alloc::{AllocError, Global};
 
 /// Prints a call and its answer.
 fn show_call(rt: &HostRuntime, asked: Call<'_>, answer: &Answer) -> Result<(), Trouble<'static>> {
     let reply = Reply(answer);
     match (asked, answer) {
-        (_, Answer::Denied(denial)) => return Err(Trouble::Denied(*denial)),
-        (Call::Write(Block(block), value), _) => {
-            let text = Text(value);
-            println!(rt; "  write {block} {text}: {reply}")?;
+        (_, Err(denial)) => return Err(Trouble::Denied(*denial)),
+        (Call::Write(block, value), _) => {
+            println!(rt; "  write {block} {}: {reply}", Text(value))?;
         }
-        (Call::Read(Block(block), _), Answer::Valued(value)) => {
-            let text = Text(value.as_slice());
-            println!(rt; "  read {block}: {text}")?;
+        (Call::Read(block, _), Ok(Granted::Valued(value))) => {
+            println!(rt; "  read {block}: {}", Text(value.as_slice()))?;
         }
         (Call::Beat, _) => println!(rt; "  beat: {reply}")?,
         (_, _) => {}
@@ -44,13 +39,13 @@ fn check_read(
     asked: Call<'_>,
     answer: &Answer,
 ) -> Result<(), Trouble<'static>> {
-    let (Call::Read(block, _), Answer::Valued(value)) = (asked, answer) else {
-        return Ok(());
-    };
-    if booked(day, block).as_slice() != value.as_slice() {
-        return Err(Trouble::OtherBooking(block.0));
+    match (asked, answer) {
+        (Call::Read(block, _), Ok(Granted::Valued(value)))
+            if value.as_slice() != booked(day, block).as_slice() => {
+            Err(Trouble::OtherBooking(block))
+        }
+        _ => Ok(()),
     }
-    Ok(())
 }
 
 /// Prints and checks what the calls answered.
@@ -67,16 +62,13 @@ fn take_answers(
     Ok(())
 }
 
-/// The map file that the calls saved.
-fn saved_file(heap: Global, answers: &[Answer]) -> Result<Vec<u8>, Trouble<'static>> {
-    let mut file = Vec::new(heap);
-    for answer in answers {
-        if let Answer::Saved(count, bytes) = answer {
-            file = bytes.clone()?;
-            file.truncate(*count);
-        }
-    }
-    Ok(file)
+/// The map file that the calls saved last.
+fn saved_file(heap: Global, answers: &[Answer]) -> Result<Vec<u8>, AllocError> {
+    let last = answers.iter().rev().find_map(|answer| match answer {
+        Ok(granted) => granted.map_file(),
+        Err(_) => None,
+    });
+    Vec::from_slice(heap, last.unwrap_or_default())
 }
 
 /// What a day leaves.
@@ -92,32 +84,27 @@ pub(crate) struct Booked {
 /// A day from a fresh format.
 pub(crate) fn book_day(
     rt: &HostRuntime,
-    keys: Keys,
     day: &[Option<Booking>],
 ) -> Result<Booked, Trouble<'static>> {
     let heap = rt.alloc();
     let mut image = vec![in heap; 0; IMAGE_LEN]?;
-    let card = ByteCard::new(image.as_mut_slice());
-    let seal = StreetSeal::new(keys.body, keys.tag);
-    let tape = KeyedTape::new(keys.tape, keys.nonce, BEATS);
     let calls = calls_of_day(heap, day)?;
-    let Ran { store, transcript } = run(
+    let calls = calls.as_slice();
+    let making = Making::Format(BLOCKS);
+    let Ran { store, transcript } = run_keyed(
         heap,
-        card,
-        seal,
-        tape,
-        &Making::Format(BLOCKS),
-        calls.as_slice(),
+        &EXAMPLE_KEYS,
+        image.as_mut_slice(),
+        BEATS,
+        &making,
+        calls,
     );
-    let made = store.answer();
+    store.answer()?;
     drop(store);
-    if let Err(denial) = made {
-        return Err(Trouble::Denied(denial));
-    }
     println!(rt; "  format {BLOCKS}: granted")?;
     let transcript = transcript?;
-    take_answers(rt, day, calls.as_slice(), transcript.answers.as_slice())?;
-    let map = saved_file(heap, transcript.answers.as_slice())?;
+    take_answers(rt, day, calls, transcript.notes.answers.as_slice())?;
+    let map = saved_file(heap, transcript.notes.answers.as_slice())?;
     Ok(Booked {
         image,
         map,
@@ -128,36 +115,30 @@ pub(crate) fn book_day(
 /// A second store, resumed from card and map, reads every block again. `resumed` says where they come from.
 pub(crate) fn read_again(
     rt: &HostRuntime,
-    keys: Keys,
     day: &[Option<Booking>],
     image: &mut [u8],
     map: &[u8],
     resumed: &str,
 ) -> Result<(), Trouble<'static>> {
     let heap = rt.alloc();
-    let card = ByteCard::new(image);
-    let seal = StreetSeal::new(keys.body, keys.tag);
-    let tape = KeyedTape::new(keys.tape, keys.nonce, 0);
     let mut reads = Vec::new(heap);
     push_reads(&mut reads)?;
+    let reads = reads.as_slice();
     let making = Making::Resume(map);
-    let Ran { store, transcript } = run(heap, card, seal, tape, &making, reads.as_slice());
-    let made = store.answer();
+    let Ran { store, transcript } = run_keyed(heap, &EXAMPLE_KEYS, image, 0, &making, reads);
+    store.answer()?;
     drop(store);
-    if let Err(denial) = made {
-        return Err(Trouble::Denied(denial));
-    }
     println!(rt; "  resumed from {resumed}")?;
-    take_answers(rt, day, reads.as_slice(), transcript?.answers.as_slice())
+    take_answers(rt, day, reads, transcript?.notes.answers.as_slice())
 }
 
 /// Whether two days show the same faces, which must be so.
-pub(crate) fn compare_days(
+fn compare_days(
     rt: &HostRuntime,
     first: &Transcript,
     second: &Transcript,
 ) -> Result<(), Trouble<'static>> {
-    let beats = first.places.len();
+    let beats = first.notes.places.len();
     match compare(first, second) {
         Verdict::SameFaces => println!(rt;
             "both days show the same face after each of the {beats} beats"
@@ -166,6 +147,27 @@ pub(crate) fn compare_days(
         Verdict::BegunApart => return Err(Trouble::BegunApart),
     }
     println!(rt; "done: two days booked, read back, saved, resumed and read again")?;
+    Ok(())
+}
+
+/// Runs two days, and compares what they show to who copies the card.
+pub(crate) fn run_both<'a, F, G>(
+    rt: &HostRuntime,
+    first_day: F,
+    second_day: G,
+) -> Result<(), Trouble<'a>>
+where
+    F: FnOnce() -> Result<Transcript, Trouble<'a>>,
+    G: FnOnce() -> Result<Transcript, Trouble<'a>>,
+    requires first { F.IsAlwaysCallable first_day }
+    requires second { G.IsAlwaysCallable second_day }
+{
+    show_keys(rt, &EXAMPLE_KEYS)?;
+    println!(rt; "first day:")?;
+    let first = first_day()?;
+    println!(rt; "second day, other bookings on the same tape:")?;
+    let second = second_day()?;
+    compare_days(rt, &first, &second)?;
     Ok(())
 }
 
@@ -180,48 +182,43 @@ struct Paths<'a> {
 fn run_day<'a>(
     rt: &HostRuntime,
     paths: Paths<'a>,
-    keys: Keys,
     day: &[Option<Booking>],
 ) -> Result<Transcript, Trouble<'a>> {
     let Booked {
         image,
         map,
         transcript,
-    } = book_day(rt, keys, day)?;
+    } = book_day(rt, day)?;
     replace_file(rt, paths.card, image.as_slice())?;
     replace_file(rt, paths.map, map.as_slice())?;
     let mut image = read_file(rt, paths.card)?;
     let map = read_file(rt, paths.map)?;
     read_again(
         rt,
-        keys,
         day,
         image.as_mut_slice(),
         map.as_slice(),
         "the card file and the map file",
     )?;
-    Tally::of(transcript.answers.as_slice()).show(rt)?;
-    let sealings = transcript.sealings.len();
+    Tally::of(transcript.notes.answers.as_slice()).show(rt)?;
+    let sealings = transcript.notes.sealings.len();
     println!(rt; "  {sealings} sealings, the first {PLACES} by format")?;
     Ok(transcript)
 }
 
-/// Runs both days on files, and compares what they show to who copies the card.
+/// Runs both days on files.
 pub(crate) fn run_days<'a>(
     rt: &HostRuntime,
     card: &'a str,
     map: &'a str,
 ) -> Result<(), Trouble<'a>> {
-    let paths = Paths { card, map };
-    let keys = EXAMPLE_KEYS;
     println!(rt;
         "{card}: a card of {PLACES} places for {BLOCKS} blocks, {BEATS} beats a day; its map goes to {map}"
     )?;
-    show_keys(rt, &keys)?;
-    println!(rt; "first day:")?;
-    let first = run_day(rt, paths, keys, &FIRST_DAY)?;
-    println!(rt; "second day, other bookings on the same tape:")?;
-    let second = run_day(rt, paths, keys, &SECOND_DAY)?;
-    compare_days(rt, &first, &second)?;
-    Ok(())
+    let paths = Paths { card, map };
+    run_both(
+        rt,
+        || run_day(rt, paths, &FIRST_DAY),
+        || run_day(rt, paths, &SECOND_DAY),
+    )
 }

@@ -1,9 +1,10 @@
 //! The ends that the command line names, read from their files.
-use crate::files::{read_file, read_keys, read_words, replace_file};
+use crate::files::{read_keys, read_words};
 use crate::options::{CardChoice, SealChoice, TapeChoice};
 use crate::trouble::{FileUse, Trouble};
 use card::byte::ByteCard;
 use card::window::WindowCard;
+use console::files::{read_file, replace_file};
 
 /// A card file in memory.
 #[derive(Drop)]
@@ -26,10 +27,11 @@ impl<'a> Image<'a> {
     }
 
     pub(crate) fn write_back(&self, rt: &HostRuntime) -> Result<(), Trouble<'a>> {
-        replace_file(rt, self.choice.path, self.bytes.as_slice())
+        Ok(replace_file(rt, self.choice.path, self.bytes.as_slice())?)
     }
 }
 
+// An enum and no Option: the bench seal is a seal, and not the want of one.
 #[derive(Clone, Copy)]
 pub(crate) enum SealKeys {
     Bench,

@@ -1,6 +1,6 @@
 //! How the keys of the two days are shown.
-use bookings::keys::Keys;
-use lines::hex::Hex;
+use console::bytes::Hex;
+use example::keys::Keys;
 use std::io;
 
 /// Prints keys. Keys in use stay secret; these are examples.

@@ -6,9 +6,7 @@ mod days;
 mod demonstration;
 mod ends;
 mod files;
-mod hex;
 mod keys;
-mod mishap;
 mod misuse;
 mod options;
 mod orders;
@@ -19,23 +17,15 @@ mod trouble;
 mod usage;
 mod wrong;
 
+use console::ending::exit_code;
+use console::words::read_words;
 use days::run_days;
 use demonstration::run_demonstration;
 use options::{Task, task_of};
 use scripted::run_script;
-use std::env;
 use std::process::ExitCode;
 use trouble::Trouble;
 use usage::USAGE;
-
-/// The words of the command line, without the program's name.
-fn read_words(rt: &HostRuntime) -> Result<Vec<String>, Trouble<'static>> {
-    let mut words = Vec::new(rt.alloc());
-    for word in env::args(rt)?.skip(1) {
-        words.push(word)?;
-    }
-    Ok(words)
-}
 
 fn run<'a>(rt: &HostRuntime, words: &'a [String]) -> Result<(), Trouble<'a>> {
     match task_of(words)? {
@@ -47,20 +37,10 @@ fn run<'a>(rt: &HostRuntime, words: &'a [String]) -> Result<(), Trouble<'a>> {
     Ok(())
 }
 
+// What goes wrong borrows the words, so that no function over both programs can name its type.
 fn main(rt: HostRuntime) -> ExitCode {
     match read_words(&rt) {
-        Ok(words) => tell(&rt, run(&rt, words.as_slice())),
-        Err(trouble) => tell(&rt, Err(trouble)),
-    }
-}
-
-/// Tells what went wrong, on standard error, and what the process ends with.
-fn tell(rt: &HostRuntime, done: Result<(), Trouble<'_>>) -> ExitCode {
-    match done {
-        Ok(()) => ExitCode::SUCCESS,
-        Err(trouble) => {
-            let _ = eprintln!(rt; "dock: {trouble}");
-            ExitCode::FAILURE
-        }
+        Ok(words) => exit_code(&rt, "dock", run(&rt, words.as_slice())),
+        Err(failure) => exit_code(&rt, "dock", Err(failure)),
     }
 }

@@ -1,6 +1,10 @@
 //! The command line.
+ghost use Rattle.std.specs.Prelude.{◌≤◌, length};
+ghost use Rattle.std.specs.Slice.Iter.{iter_rest};
+
 use crate::misuse::Misuse;
 use crate::trouble::Trouble;
+use std::slice::Iter;
 
 /// A card file, and the window that is used of it.
 #[derive(Clone, Copy)]
@@ -10,6 +14,7 @@ pub(crate) struct CardChoice<'a> {
     pub len: u32,
 }
 
+// An enum and no Option: the bench seal is a seal, and not the want of one.
 #[derive(Clone, Copy)]
 pub(crate) enum SealChoice<'a> {
     Bench,
@@ -45,25 +50,9 @@ pub(crate) enum Task<'a> {
     Script(Options<'a>),
 }
 
-/// What the next word of the command line is.
-#[derive(Clone, Copy)]
-enum Next<'a> {
-    Option,
-    DaysFile,
-    DaysMap(&'a str),
-    CardFile,
-    WindowStart,
-    WindowLen(u32),
-    StreetFile,
-    WordsFile,
-    KeyedFile,
-    KeyedCount(&'a str),
-}
-
 /// What was read of the command line so far.
-#[derive(Clone, Copy)]
+#[derive(Clone, Copy, Default)]
 struct Reading<'a> {
-    next: Next<'a>,
     help: bool,
     days: Option<(&'a str, &'a str)>,
     first: Option<CardChoice<'a>>,
@@ -77,115 +66,105 @@ pub(crate) fn task_of<'a>(words: &'a [String]) -> Result<Task<'a>, Trouble<'a>> 
     if words.is_empty() {
         return Ok(Task::Demonstration);
     }
-    let mut reading = Reading {
-        next: Next::Option,
-        help: false,
-        days: None,
-        first: None,
-        second: None,
-        seal: None,
-        tape: None,
-    };
-    for word in words {
-        reading = reading.with(word.as_str())?;
+    let mut reading = Reading::default();
+    match reading.read(words) {
+        Ok(()) => reading.task(),
+        // The help wins over a word that is missing at the end.
+        Err(Trouble::Usage(Misuse::WordMissing)) if reading.help => Ok(Task::Help),
+        Err(trouble) => Err(trouble),
     }
-    reading.task()
 }
 
-fn number<'a>(word: &'a str) -> Result<u32, Trouble<'a>> {
-    match word.parse::<u32>() {
-        Ok(number) => Ok(number),
-        Err(_) => Err(Trouble::Argument(word, Misuse::NotNumber)),
+/// The word behind an option.
+fn behind<'a>(words: &mut Iter<'a, String>) -> Result<&'a str, Trouble<'a>>
+    ensures no_more_are_left { length (iter_rest words.new) ≤ length (iter_rest words.old) }
+{
+    match words.next() {
+        Some(word) => Ok(word.as_str()),
+        None => Err(Trouble::Usage(Misuse::WordMissing)),
+    }
+}
+
+/// The number behind an option.
+fn number_behind<'a>(words: &mut Iter<'a, String>) -> Result<u32, Trouble<'a>>
+    ensures no_more_are_left { length (iter_rest words.new) ≤ length (iter_rest words.old) }
+{
+    let word = behind(words)?;
+    word.parse::<u32>()
+        .map_err(|_| Trouble::Argument(word, Misuse::NotNumber))
+}
+
+/// Takes a choice that may be made once.
+fn once<'a, T: Drop>(slot: &mut Option<T>, choice: T, again: Misuse) -> Result<(), Trouble<'a>> {
+    match slot.replace(choice) {
+        None => Ok(()),
+        Some(_) => Err(Trouble::Usage(again)),
     }
 }
 
 impl<'a> Reading<'a> {
-    /// One word more.
-    fn with(self, word: &'a str) -> Result<Reading<'a>, Trouble<'a>> {
-        let mut read = self;
-        read.next = Next::Option;
-        match self.next {
-            Next::Option => return read.option(word),
-            Next::DaysFile => read.next = Next::DaysMap(word),
-            Next::DaysMap(card) => read.days = Some((card, word)),
-            Next::CardFile => return read.card(word),
-            Next::WindowStart => read.next = Next::WindowLen(number(word)?),
-            Next::WindowLen(start) => return read.window(start, number(word)?),
-            Next::StreetFile => return read.seal(SealChoice::Street(word)),
-            Next::WordsFile => return read.tape(TapeChoice::Words(word)),
-            Next::KeyedFile => read.next = Next::KeyedCount(word),
-            Next::KeyedCount(path) => return read.tape(TapeChoice::Keyed(path, number(word)?)),
+    /// Every option with the words behind it.
+    fn read(&mut self, words: &'a [String]) -> Result<(), Trouble<'a>> {
+        let mut words = words.iter();
+        while let Some(option) = words.next() {
+            match option.as_str() {
+                "--help" => self.help = true,
+                "--days" => {
+                    let card = behind(&mut words)?;
+                    self.days = Some((card, behind(&mut words)?));
+                }
+                "--card" => self.card(behind(&mut words)?)?,
+                "--window" => {
+                    let start = number_behind(&mut words)?;
+                    self.window(start, number_behind(&mut words)?)?;
+                }
+                "--bench" => once(&mut self.seal, SealChoice::Bench, Misuse::TwoSeals)?,
+                "--street" => {
+                    let choice = SealChoice::Street(behind(&mut words)?);
+                    once(&mut self.seal, choice, Misuse::TwoSeals)?;
+                }
+                "--words" => {
+                    let choice = TapeChoice::Words(behind(&mut words)?);
+                    once(&mut self.tape, choice, Misuse::TwoTapes)?;
+                }
+                "--keyed" => {
+                    let path = behind(&mut words)?;
+                    let choice = TapeChoice::Keyed(path, number_behind(&mut words)?);
+                    once(&mut self.tape, choice, Misuse::TwoTapes)?;
+                }
+                word => return Err(Trouble::Argument(word, Misuse::NoSuchOption)),
+            }
         }
-        Ok(read)
+        Ok(())
     }
 
-    fn option(self, word: &'a str) -> Result<Reading<'a>, Trouble<'a>> {
-        let mut read = self;
-        match word {
-            "--help" => read.help = true,
-            "--days" => read.next = Next::DaysFile,
-            "--card" => read.next = Next::CardFile,
-            "--window" => read.next = Next::WindowStart,
-            "--bench" => return read.seal(SealChoice::Bench),
-            "--street" => read.next = Next::StreetFile,
-            "--words" => read.next = Next::WordsFile,
-            "--keyed" => read.next = Next::KeyedFile,
-            _ => return Err(Trouble::Argument(word, Misuse::NoSuchOption)),
-        }
-        Ok(read)
-    }
-
-    fn card(self, path: &'a str) -> Result<Reading<'a>, Trouble<'a>> {
-        let mut read = self;
+    fn card(&mut self, path: &'a str) -> Result<(), Trouble<'a>> {
         let whole = CardChoice {
             path,
             start: 0,
             len: u32::MAX,
         };
         match (self.first, self.second) {
-            (None, _) => read.first = Some(whole),
+            (None, _) => self.first = Some(whole),
             (Some(first), None) => {
                 if first.path == path {
                     return Err(Trouble::Argument(path, Misuse::SameCard));
                 }
-                read.second = Some(whole);
+                self.second = Some(whole);
             }
             (Some(_), Some(_)) => return Err(Trouble::Argument(path, Misuse::ThirdCard)),
         }
-        Ok(read)
+        Ok(())
     }
 
     /// A window over the card that was given last.
-    fn window(self, start: u32, len: u32) -> Result<Reading<'a>, Trouble<'a>> {
-        let mut read = self;
-        match (self.first, self.second) {
-            (None, _) => return Err(Trouble::Usage(Misuse::WindowFirst)),
-            (Some(CardChoice { path, .. }), None) => {
-                read.first = Some(CardChoice { path, start, len });
-            }
-            (Some(_), Some(CardChoice { path, .. })) => {
-                read.second = Some(CardChoice { path, start, len });
-            }
-        }
-        Ok(read)
-    }
-
-    fn seal(self, seal: SealChoice<'a>) -> Result<Reading<'a>, Trouble<'a>> {
-        let mut read = self;
-        if self.seal.is_some() {
-            return Err(Trouble::Usage(Misuse::TwoSeals));
-        }
-        read.seal = Some(seal);
-        Ok(read)
-    }
-
-    fn tape(self, tape: TapeChoice<'a>) -> Result<Reading<'a>, Trouble<'a>> {
-        let mut read = self;
-        if self.tape.is_some() {
-            return Err(Trouble::Usage(Misuse::TwoTapes));
-        }
-        read.tape = Some(tape);
-        Ok(read)
+    fn window(&mut self, start: u32, len: u32) -> Result<(), Trouble<'a>> {
+        let Some(card) = self.second.as_mut().or(self.first.as_mut()) else {
+            return Err(Trouble::Usage(Misuse::WindowFirst));
+        };
+        card.start = start;
+        card.len = len;
+        Ok(())
     }
 
     /// What all the words ask for.
@@ -193,26 +172,14 @@ impl<'a> Reading<'a> {
         if self.help {
             return Ok(Task::Help);
         }
-        let Next::Option = self.next else {
-            return Err(Trouble::Usage(Misuse::WordMissing));
-        };
         if let Some((card, map)) = self.days {
             return Ok(Task::Days(card, map));
         }
-        let Some(first) = self.first else {
-            return Err(Trouble::Usage(Misuse::NoCard));
-        };
-        let Some(seal) = self.seal else {
-            return Err(Trouble::Usage(Misuse::NoSeal));
-        };
-        let Some(tape) = self.tape else {
-            return Err(Trouble::Usage(Misuse::NoTape));
-        };
         Ok(Task::Script(Options {
-            first,
+            first: self.first.ok_or(Trouble::Usage(Misuse::NoCard))?,
             second: self.second,
-            seal,
-            tape,
+            seal: self.seal.ok_or(Trouble::Usage(Misuse::NoSeal))?,
+            tape: self.tape.ok_or(Trouble::Usage(Misuse::NoTape))?,
         }))
     }
 }

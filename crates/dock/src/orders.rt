@@ -1,8 +1,8 @@
 //! A line of a script, read word by word.
-use crate::hex::bytes_of;
 use crate::wrong::{Thing, Wrong};
 use layout::names::Block;
 use std::alloc::Global;
+use std::str::FromStr;
 
 /// A read without a length takes a buffer for a whole value.
 const VALUE_LEN: usize = 48;
@@ -68,161 +68,108 @@ pub(crate) enum Order {
     Call(CallOrder),
 }
 
-/// The words of a line: no call takes more than two behind its name.
-#[derive(Clone, Copy)]
-struct Words<'a> {
-    verb: &'a str,
-    first: Option<&'a str>,
-    second: Option<&'a str>,
+/// A word that has to be there.
+fn given<'a>(word: Option<&'a str>, what: Thing) -> Result<&'a str, Wrong> {
+    word.ok_or(Wrong::Missing(what))
 }
 
-impl<'a> Words<'a> {
-    /// `None` for a blank line and for a remark.
-    fn of(line: &'a str) -> Result<Option<Words<'a>>, Wrong> {
-        let mut words = line.split_whitespace();
-        let Some(verb) = words.next() else {
-            return Ok(None);
-        };
-        if verb.starts_with('#') {
-            return Ok(None);
-        }
-        let first = words.next();
-        let second = words.next();
-        if words.next().is_some() {
-            return Err(Wrong::WordsLeft);
-        }
-        Ok(Some(Words {
-            verb,
-            first,
-            second,
-        }))
-    }
-
-    /// The first word behind the verb, of a call that takes just one.
-    fn only(&self, what: Thing) -> Result<&'a str, Wrong> {
-        match (self.first, self.second) {
-            (_, Some(_)) => Err(Wrong::WordsLeft),
-            (Some(word), None) => Ok(word),
-            (None, None) => Err(Wrong::Missing(what)),
-        }
-    }
-
-    /// The first word behind the verb, of a call that takes one at most.
-    fn at_most_one(&self) -> Result<Option<&'a str>, Wrong> {
-        match self.second {
-            Some(_) => Err(Wrong::WordsLeft),
-            None => Ok(self.first),
-        }
-    }
-
-    /// The block that the first word names.
-    fn block(&self) -> Result<Block, Wrong> {
-        let Some(word) = self.first else {
-            return Err(Wrong::Missing(Thing::Block));
-        };
-        Ok(Block(number(word, Thing::Block)?))
-    }
-}
-
-fn number(word: &str, what: Thing) -> Result<u32, Wrong> {
-    match word.parse::<u32>() {
-        Ok(number) => Ok(number),
-        Err(_) => Err(Wrong::NotNumber(what)),
-    }
+fn number<N: FromStr>(word: Option<&str>, what: Thing) -> Result<N, Wrong>
+where
+    N::Err: Drop,
+{
+    let read = given(word, what)?.parse::<N>();
+    read.map_err(|_| Wrong::NotNumber(what))
 }
 
 fn length(word: &str) -> Result<usize, Wrong> {
-    match word.parse::<usize>() {
-        Ok(length) => Ok(length),
-        Err(_) => Err(Wrong::NotNumber(Thing::BufferLength)),
+    number(Some(word), Thing::BufferLength)
+}
+
+fn value(heap: Global, word: Option<&str>) -> Result<Vec<u8>, Wrong> {
+    match given(word, Thing::Value)? {
+        "-" => Ok(Vec::new(heap)),
+        digits => Ok(hex::decode(heap, digits)?),
     }
 }
 
-fn write_order(heap: Global, words: Words<'_>) -> Result<CallOrder, Wrong> {
-    let block = words.block()?;
-    match words.second {
-        None => Err(Wrong::Missing(Thing::Value)),
-        Some("-") => Ok(CallOrder::Write(block, Vec::new(heap))),
-        Some(digits) => Ok(CallOrder::Write(block, bytes_of(heap, digits)?)),
+fn beats(word: Option<&str>) -> Result<u32, Wrong> {
+    if word.is_none() {
+        return Ok(1);
+    }
+    match number::<u32>(word, Thing::BeatCount)? {
+        0 => Err(Wrong::NoBeats),
+        count if count > MOST_BEATS => Err(Wrong::ManyBeats),
+        count => Ok(count),
     }
 }
 
-fn read_order(words: Words<'_>) -> Result<CallOrder, Wrong> {
-    let block = words.block()?;
-    match words.second {
-        None => Ok(CallOrder::Read(block, VALUE_LEN)),
-        Some(word) => Ok(CallOrder::Read(block, length(word)?)),
-    }
-}
-
-fn beat_order(words: Words<'_>) -> Result<CallOrder, Wrong> {
-    let Some(word) = words.at_most_one()? else {
-        return Ok(CallOrder::Beats(1));
+/// A lone word that is no number is the file, and the buffer is the default one.
+fn save_order<'a>(
+    heap: Global,
+    first: Option<&'a str>,
+    second: Option<&'a str>,
+) -> Result<CallOrder, Wrong> {
+    let (len, path) = match (first, second) {
+        (None, _) => (MOST_FILE_LEN, None),
+        (Some(word), None) => match length(word) {
+            Ok(len) => (len, None),
+            Err(_) => (MOST_FILE_LEN, first),
+        },
+        (Some(word), Some(_)) => (length(word)?, second),
     };
-    let count = number(word, Thing::BeatCount)?;
-    if count == 0 {
-        return Err(Wrong::NoBeats);
-    }
-    if count > MOST_BEATS {
-        return Err(Wrong::ManyBeats);
-    }
-    Ok(CallOrder::Beats(count))
-}
-
-fn face_order(words: Words<'_>) -> Result<CallOrder, Wrong> {
-    match words.at_most_one()? {
-        None => Ok(CallOrder::Face(None)),
-        Some(word) => Ok(CallOrder::Face(Some(length(word)?))),
+    match path {
+        None => Ok(CallOrder::Save(len, None)),
+        Some(path) => Ok(CallOrder::Save(len, Some(String::from_str(heap, path)?))),
     }
 }
 
-/// A first word that is no number is the file, and the buffer is the default one.
-fn save_order(heap: Global, words: Words<'_>) -> Result<CallOrder, Wrong> {
-    let Some(first) = words.first else {
-        return Ok(CallOrder::Save(MOST_FILE_LEN, None));
-    };
-    match (length(first), words.second) {
-        (Ok(length), None) => Ok(CallOrder::Save(length, None)),
-        (Ok(length), Some(path)) => {
-            Ok(CallOrder::Save(length, Some(String::from_str(heap, path)?)))
+/// The calls that a line makes by its verb and at most two words behind it.
+// No slice of words: to collect them allocates, and a remark could then fail for want of memory.
+fn call_order<'a>(
+    heap: Global,
+    verb: &str,
+    first: Option<&'a str>,
+    second: Option<&'a str>,
+) -> Result<CallOrder, Wrong> {
+    match (verb, second) {
+        ("write", _) => {
+            let block = Block(number(first, Thing::Block)?);
+            Ok(CallOrder::Write(block, value(heap, second)?))
         }
-        (Err(_), None) => Ok(CallOrder::Save(MOST_FILE_LEN, Some(String::from_str(heap, first)?))),
-        (Err(wrong), Some(_)) => Err(wrong),
-    }
-}
-
-fn making_order(heap: Global, words: Words<'_>) -> Result<Option<MakingOrder>, Wrong> {
-    match words.verb {
-        "format" => {
-            let blocks = number(words.only(Thing::BlockCount)?, Thing::BlockCount)?;
-            Ok(Some(MakingOrder::Format(blocks)))
+        ("read", _) => {
+            let block = Block(number(first, Thing::Block)?);
+            Ok(CallOrder::Read(block, second.map_or(Ok(VALUE_LEN), length)?))
         }
-        "resume" => {
-            let path = String::from_str(heap, words.only(Thing::MapFile)?)?;
-            Ok(Some(MakingOrder::Resume(path)))
-        }
-        _ => Ok(None),
-    }
-}
-
-fn call_order(heap: Global, words: Words<'_>) -> Result<CallOrder, Wrong> {
-    match words.verb {
-        "write" => write_order(heap, words),
-        "read" => read_order(words),
-        "beat" => beat_order(words),
-        "face" => face_order(words),
-        "save" => save_order(heap, words),
+        ("beat" | "face", Some(_)) => Err(Wrong::WordsLeft),
+        ("beat", None) => Ok(CallOrder::Beats(beats(first)?)),
+        ("face", None) => Ok(CallOrder::Face(first.map(length).transpose()?)),
+        ("save", _) => save_order(heap, first, second),
         _ => Err(Wrong::NoSuchCall),
     }
 }
 
 /// What a line orders; `None` for a blank line and for a remark.
 pub(crate) fn order_of(heap: Global, line: &str) -> Result<Option<Order>, Wrong> {
-    let Some(words) = Words::of(line)? else {
+    let mut words = line.split_whitespace();
+    let Some(verb) = words.next() else {
         return Ok(None);
     };
-    match making_order(heap, words)? {
-        Some(making) => Ok(Some(Order::Making(making))),
-        None => Ok(Some(Order::Call(call_order(heap, words)?))),
+    if verb.starts_with('#') {
+        return Ok(None);
     }
+    let first = words.next();
+    let second = words.next();
+    if words.next().is_some() {
+        return Err(Wrong::WordsLeft);
+    }
+    let order = match (verb, second) {
+        ("format" | "resume", Some(_)) => return Err(Wrong::WordsLeft),
+        ("format", None) => Order::Making(MakingOrder::Format(number(first, Thing::BlockCount)?)),
+        ("resume", None) => {
+            let path = String::from_str(heap, given(first, Thing::MapFile)?)?;
+            Order::Making(MakingOrder::Resume(path))
+        }
+        _ => Order::Call(call_order(heap, verb, first, second)?),
+    };
+    Ok(Some(order))
 }

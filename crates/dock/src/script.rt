@@ -1,6 +1,6 @@
 //! A script: makings, each with the calls on the store that it makes.
-use crate::mishap::Mishap;
 use crate::orders::{CallOrder, MakingOrder, Order, order_of};
+use crate::trouble::Trouble;
 use crate::wrong::Wrong;
 use std::alloc::Global;
 
@@ -21,22 +21,27 @@ pub(crate) struct Part {
 }
 
 /// Reads the lines of standard input up to the first that is malformed.
-pub(crate) fn read_parts(rt: &HostRuntime, parts: &mut Vec<Part>) -> Result<(), Mishap> {
+pub(crate) fn read_parts(rt: &HostRuntime, parts: &mut Vec<Part>) -> Result<(), Trouble<'static>> {
     let heap = rt.alloc();
     for (read, line) in rt.lines(heap).zip(1usize..) {
         let Ok(text) = read else {
-            return Err(Mishap::Line(line, Wrong::NoText));
+            return Err(Trouble::Line(line, Wrong::NoText));
         };
         match order_of(heap, text.as_str()) {
             Ok(None) => {}
             Ok(Some(order)) => add_order(heap, parts, line, order)?,
-            Err(wrong) => return Err(Mishap::Line(line, wrong)),
+            Err(wrong) => return Err(Trouble::Line(line, wrong)),
         }
     }
     Ok(())
 }
 
-fn add_order(heap: Global, parts: &mut Vec<Part>, line: usize, order: Order) -> Result<(), Mishap> {
+fn add_order(
+    heap: Global,
+    parts: &mut Vec<Part>,
+    line: usize,
+    order: Order,
+) -> Result<(), Trouble<'static>> {
     match order {
         Order::Making(making) => {
             let calls = Vec::new(heap);
@@ -48,7 +53,7 @@ fn add_order(heap: Global, parts: &mut Vec<Part>, line: usize, order: Order) -> 
         }
         Order::Call(order) => {
             let Some(part) = parts.last_mut() else {
-                return Err(Mishap::Line(line, Wrong::NoMaking));
+                return Err(Trouble::Line(line, Wrong::NoMaking));
             };
             part.calls.push(CallLine { line, order })?;
         }

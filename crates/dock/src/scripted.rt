@@ -1,12 +1,12 @@
 //! A script carried out on card images.
 use crate::ends::{Image, SealKeys, TapeWords};
-use crate::mishap::Mishap;
 use crate::options::Options;
 use crate::orders::{CallOrder, MakingOrder};
 use crate::script::{CallLine, Part, read_parts};
 use crate::trouble::Trouble;
 use card::card::Card;
 use card::split::SplitCard;
+use engine::state::Ends;
 use lines::reply::{Made, Reply};
 use runs::calls::{Answer, Call, Making};
 use runs::perform::perform;
@@ -15,8 +15,9 @@ use runs::transcript::Ran;
 use seal::bench::BenchSeal;
 use seal::seal::Seal;
 use seal::street::StreetSeal;
-use std::alloc::Global;
+use std::alloc::{AllocError, Global};
 use std::fs;
+use std::iter::repeat_n;
 use store::state::Store;
 use tape::keyed::KeyedTape;
 use tape::tape::Tape;
@@ -24,14 +25,6 @@ use tape::words::WordTape;
 
 /// So many calls behind a making are one run; a longer script goes on call by call and tells how far it is.
 const AT_ONCE: usize = 10_000;
-
-/// A card, a seal and a tape, between one store and the next.
-#[derive(Drop)]
-struct Ends<C: Card, S: Seal, T: Tape> {
-    card: C,
-    seal: S,
-    tape: T,
-}
 
 /// Runs the script on standard input.
 pub(crate) fn run_script<'a>(rt: &HostRuntime, options: Options<'a>) -> Result<(), Trouble<'a>> {
@@ -51,6 +44,7 @@ pub(crate) fn run_script<'a>(rt: &HostRuntime, options: Options<'a>) -> Result<(
     Ok(())
 }
 
+// One function a number of images: a card of one image and a card of two are of different types.
 /// The image is written back whether the parts went through or not.
 fn on_one<'a>(
     rt: &HostRuntime,
@@ -83,26 +77,27 @@ fn on_two<'a>(
     Ok(())
 }
 
-fn on_card<C: Card + Drop>(
+// Card, seal and tape each get their type here and in `on_seal`, one after another; `Ends` holds them once all are known.
+fn on_card<'a, C: Card + Drop>(
     rt: &HostRuntime,
     card: C,
     seal: SealKeys,
     tape: &TapeWords,
     parts: &[Part],
-) -> Result<(), Mishap> {
+) -> Result<(), Trouble<'a>> {
     match seal {
         SealKeys::Bench => on_seal(rt, card, BenchSeal, tape, parts),
         SealKeys::Street(body, tag) => on_seal(rt, card, StreetSeal::new(body, tag), tape, parts),
     }
 }
 
-fn on_seal<C: Card + Drop, S: Seal + Drop>(
+fn on_seal<'a, C: Card + Drop, S: Seal + Drop>(
     rt: &HostRuntime,
     card: C,
     seal: S,
     tape: &TapeWords,
     parts: &[Part],
-) -> Result<(), Mishap> {
+) -> Result<(), Trouble<'a>> {
     match tape {
         TapeWords::Words(words) => {
             let tape = WordTape::new(words.as_slice());
@@ -115,11 +110,11 @@ fn on_seal<C: Card + Drop, S: Seal + Drop>(
     }
 }
 
-fn run_parts<C: Card + Drop, S: Seal + Drop, T: Tape + Drop>(
+fn run_parts<'a, C: Card + Drop, S: Seal + Drop, T: Tape + Drop>(
     rt: &HostRuntime,
     ends: Ends<C, S, T>,
     parts: &[Part],
-) -> Result<(), Mishap> {
+) -> Result<(), Trouble<'a>> {
     let mut ends = ends;
     for part in parts {
         ends = run_part(rt, ends, part)?;
@@ -127,67 +122,60 @@ fn run_parts<C: Card + Drop, S: Seal + Drop, T: Tape + Drop>(
     Ok(())
 }
 
-fn run_part<C: Card + Drop, S: Seal + Drop, T: Tape + Drop>(
+fn run_part<'a, C: Card + Drop, S: Seal + Drop, T: Tape + Drop>(
     rt: &HostRuntime,
     ends: Ends<C, S, T>,
     part: &Part,
-) -> Result<Ends<C, S, T>, Mishap> {
-    let Ends { card, seal, tape } = ends;
+) -> Result<Ends<C, S, T>, Trouble<'a>> {
     let heap = rt.alloc();
-    let lines = part.calls.as_slice();
-    let asked = asked_by(heap, lines)?;
-    let calls = calls_of(heap, lines, card.count())?;
+    let asked = asked_by(heap, part.calls.as_slice())?;
+    // Calls apart from their lines, since `run` takes the calls alone.
+    let calls = calls_of(heap, asked.as_slice(), ends.card.count())?;
     let file = map_file(rt, part)?;
     let making = match &part.making {
         MakingOrder::Format(blocks) => Making::Format(*blocks),
         MakingOrder::Resume(_) => Making::Resume(file.as_slice()),
     };
     let calls = calls.as_slice();
-    let first = &calls[0..calls.len().min(AT_ONCE)];
+    let first = &calls[..calls.len().min(AT_ONCE)];
     let Ran {
         mut store,
         transcript,
-    } = run(heap, card, seal, tape, &making, first);
+    } = run(heap, ends, &making, first);
     let verb = part.making.verb();
     let made = Made(store.answer());
     println!(rt; "{verb}: {made}")?;
-    report(rt, lines, asked.as_slice(), transcript?.answers.as_slice())?;
-    go_on(rt, &mut store, lines, asked.as_slice(), calls)?;
-    let (card, seal, tape) = store.into_ends();
-    Ok(Ends { card, seal, tape })
+    for (line, answer) in asked.iter().zip(transcript?.notes.answers.iter()) {
+        tell(rt, line, answer)?;
+    }
+    go_on(rt, &mut store, asked.as_slice(), calls)?;
+    Ok(store.into_ends())
 }
 
 /// The bytes of the map file that a store is resumed from.
-fn map_file(rt: &HostRuntime, part: &Part) -> Result<Vec<u8>, Mishap> {
+fn map_file(rt: &HostRuntime, part: &Part) -> Result<Vec<u8>, Trouble<'static>> {
     let MakingOrder::Resume(path) = &part.making else {
         return Ok(Vec::new(rt.alloc()));
     };
-    match fs::read(rt, path.as_str()) {
-        Ok(bytes) => Ok(bytes),
-        Err(error) => Err(Mishap::LineRead(part.line, error.kind())),
-    }
+    fs::read(rt, path.as_str()).map_err(|error| Trouble::LineRead(part.line, error.kind()))
 }
 
-/// The line of each call, by its index.
-fn asked_by(heap: Global, lines: &[CallLine]) -> Result<Vec<usize>, Mishap> {
-    let mut asked = Vec::new(heap);
-    for (i, line) in lines.iter().enumerate() {
-        for _ in 0..line.order.calls() {
-            asked.push(i)?;
-        }
-    }
-    Ok(asked)
+/// The line of each call.
+fn asked_by(heap: Global, lines: &[CallLine]) -> Result<Vec<&CallLine>, AllocError> {
+    let asked = lines
+        .iter()
+        .flat_map(|line| repeat_n(line, line.order.calls() as usize));
+    asked.collect(heap)
 }
 
-/// The calls of some lines, on a card of so many places.
-fn calls_of<'a>(heap: Global, lines: &'a [CallLine], places: u32) -> Result<Vec<Call<'a>>, Mishap> {
-    let mut calls = Vec::new(heap);
-    for line in lines {
-        for _ in 0..line.order.calls() {
-            calls.push(call_of(&line.order, places))?;
-        }
-    }
-    Ok(calls)
+/// The call of each line, on a card of so many places.
+fn calls_of<'a>(
+    heap: Global,
+    asked: &[&'a CallLine],
+    places: u32,
+) -> Result<Vec<Call<'a>>, AllocError> {
+    let calls = asked.iter().map(|line| call_of(&line.order, places));
+    calls.collect(heap)
 }
 
 fn call_of<'a>(order: &'a CallOrder, places: u32) -> Call<'a> {
@@ -201,31 +189,17 @@ fn call_of<'a>(order: &'a CallOrder, places: u32) -> Call<'a> {
     }
 }
 
-/// Tells each answer of a run.
-fn report(
-    rt: &HostRuntime,
-    lines: &[CallLine],
-    asked: &[usize],
-    answers: &[Answer],
-) -> Result<(), Mishap> {
-    for (i, answer) in asked.iter().zip(answers.iter()) {
-        tell(rt, lines, *i, answer)?;
-    }
-    Ok(())
-}
-
 /// Makes the calls behind a run one by one, and tells on standard error how far it is.
 fn go_on<C: Card, S: Seal, T: Tape>(
     rt: &HostRuntime,
     store: &mut Store<C, S, T>,
-    lines: &[CallLine],
-    asked: &[usize],
+    asked: &[&CallLine],
     calls: &[Call<'_>],
-) -> Result<(), Mishap> {
+) -> Result<(), Trouble<'static>> {
     let later = asked.iter().zip(calls.iter()).skip(AT_ONCE);
-    for ((i, call), made) in later.zip(1usize..) {
+    for ((line, call), made) in later.zip(1usize..) {
         let answer = perform(rt.alloc(), store, call)?;
-        tell(rt, lines, *i, &answer)?;
+        tell(rt, line, &answer)?;
         if made % AT_ONCE == 0 {
             eprintln!(rt; "dock: {made} calls made after the first {AT_ONCE}")?;
         }
@@ -234,23 +208,15 @@ fn go_on<C: Card, S: Seal, T: Tape>(
 }
 
 /// Prints the line of an answer, and writes the map file if one was asked for.
-fn tell(rt: &HostRuntime, lines: &[CallLine], i: usize, answer: &Answer) -> Result<(), Mishap> {
-    let Some(line) = lines.get(i) else {
-        return Ok(());
-    };
+fn tell(rt: &HostRuntime, line: &CallLine, answer: &Answer) -> Result<(), Trouble<'static>> {
     let verb = line.order.verb();
     let reply = Reply(answer);
     println!(rt; "{verb}: {reply}")?;
-    keep_file(rt, line, answer)
-}
-
-fn keep_file(rt: &HostRuntime, line: &CallLine, answer: &Answer) -> Result<(), Mishap> {
-    let (CallOrder::Save(_, Some(path)), Answer::Saved(count, bytes)) = (&line.order, answer) else {
+    let (CallOrder::Save(_, Some(path)), Ok(granted)) = (&line.order, answer) else {
         return Ok(());
     };
-    let bytes = bytes.as_slice();
-    match fs::write(rt, path.as_str(), &bytes[0..(*count).min(bytes.len())]) {
-        Ok(()) => Ok(()),
-        Err(error) => Err(Mishap::LineWrite(line.line, error.kind())),
-    }
+    let Some(file) = granted.map_file() else {
+        return Ok(());
+    };
+    fs::write(rt, path.as_str(), file).map_err(|error| Trouble::LineWrite(line.line, error.kind()))
 }

@@ -1,41 +1,32 @@
 //! What a day's answers come to.
 use answers::beat::Deed;
-use runs::calls::Answer;
+use runs::calls::{Answer, Granted};
 use std::io;
 
 /// How often the calls did what.
-#[derive(Clone, Copy)]
+#[derive(Clone, Copy, Default)]
 pub(crate) struct Tally {
-    pub writes: u32,
-    pub landed: u32,
-    pub again: u32,
-    pub dummies: u32,
+    pub writes: usize,
+    pub landed: usize,
+    pub again: usize,
+    pub dummies: usize,
 }
 
 impl Tally {
     pub(crate) fn of(answers: &[Answer]) -> Tally {
-        let mut tally = Tally {
-            writes: 0,
-            landed: 0,
-            again: 0,
-            dummies: 0,
-        };
+        let mut tally = Tally::default();
+        // One pass: four filters that count would go over the answers four times.
         for answer in answers {
-            match answer {
-                Answer::Written => tally.writes = tally.writes.saturating_add(1),
-                Answer::Beaten(beat) => tally = tally.with(beat.deed),
-                _ => {}
-            }
-        }
-        tally
-    }
-
-    fn with(self, deed: Deed) -> Tally {
-        let mut tally = self;
-        match deed {
-            Deed::Dummy => tally.dummies = tally.dummies.saturating_add(1),
-            Deed::Landed(_) => tally.landed = tally.landed.saturating_add(1),
-            Deed::SealedAgain(_) => tally.again = tally.again.saturating_add(1),
+            let count = match answer {
+                Ok(Granted::Written) => &mut tally.writes,
+                Ok(Granted::Beaten(beat)) => match beat.deed {
+                    Deed::Landed(_) => &mut tally.landed,
+                    Deed::SealedAgain(_) => &mut tally.again,
+                    Deed::Dummy => &mut tally.dummies,
+                },
+                _ => continue,
+            };
+            *count = count.saturating_add(1);
         }
         tally
     }

@@ -1,13 +1,16 @@
 //! Why the program fails, in words for a person.
-use crate::mishap::Mishap;
 use crate::misuse::Misuse;
+use crate::wrong::Wrong;
 use answers::denials::Denial;
+use console::failure::Failure;
+use layout::names::Block;
 use lines::reason::Explained;
 use std::alloc::{AllocError, AllocFailed};
 use std::{fmt, io};
+use thiserror::Error;
 
 /// What a file is used for, which says how long it must be.
-#[derive(Clone, Copy)]
+#[derive(Clone, Copy, Debug)]
 pub(crate) enum FileUse {
     StreetKeys,
     TapeKeys,
@@ -24,70 +27,55 @@ impl fmt::Display for FileUse {
     }
 }
 
-/// Why the program ends before its work is done. Paths and words are those of the command line.
-#[derive(Clone, Copy)]
+/// Why the program ends before its work is done. Paths and words are those of the command line, and lines those of the
+/// script, by their numbers.
+#[derive(Clone, Copy, Debug, Error)]
 pub(crate) enum Trouble<'a> {
-    Mishap(Mishap),
-    Read(&'a str, io::ErrorKind),
-    Write(&'a str, io::ErrorKind),
+    #[error(transparent)]
+    Failed(#[from] Failure<'a>),
+    #[error("line {0}: {1} (the lines before it were carried out)")]
+    Line(usize, Wrong),
+    #[error("line {0}: cannot read its map file: {1} (the lines before it were carried out)")]
+    LineRead(usize, io::ErrorKind),
+    #[error("line {0}: cannot write its map file: {1} (the calls were carried out)")]
+    LineWrite(usize, io::ErrorKind),
     /// A file has not as many bytes as its use asks for.
+    #[error("{0} has {1} bytes; it must have {2}")]
     Length(&'a str, usize, FileUse),
     /// A word of the command line, and what is wrong with it.
+    #[error("{0}: {1}; dock --help says more")]
     Argument(&'a str, Misuse),
     /// What is wrong with the command line as a whole.
+    #[error("{0}; dock --help says more")]
     Usage(Misuse),
     /// A call of the two days was denied.
-    Denied(Denial),
+    #[error("{}", Explained(*.0))]
+    Denied(#[from] Denial),
     /// A block of the two days holds another booking than its last.
-    OtherBooking(u32),
-    /// The two days do not show the same faces.
+    #[error("block {0} holds another booking")]
+    OtherBooking(Block),
+    #[error("the two days show different faces")]
     OtherFaces,
-    /// The two days do not begin alike.
+    #[error("the two days do not begin with one face")]
     BegunApart,
 }
 
-impl fmt::Display for Trouble<'_> {
-    fn fmt<W: fmt::Write>(&self, f: &mut fmt::Formatter<W>) -> fmt::Result {
-        match *self {
-            Trouble::Mishap(mishap) => write!(f, "{mishap}"),
-            Trouble::Read(path, error) => write!(f, "cannot read {path}: {error}"),
-            Trouble::Write(path, error) => write!(f, "cannot write {path}: {error}"),
-            Trouble::Length(path, found, wanted) => {
-                write!(f, "{path} has {found} bytes; it must have {wanted}")
-            }
-            Trouble::Argument(word, wrong) => write!(f, "{word}: {wrong}; dock --help says more"),
-            Trouble::Usage(what) => write!(f, "{what}; dock --help says more"),
-            Trouble::Denied(denial) => {
-                let explained = Explained(denial);
-                write!(f, "{explained}")
-            }
-            Trouble::OtherBooking(block) => write!(f, "block {block} holds another booking"),
-            Trouble::OtherFaces => f.write_str("the two days show different faces"),
-            Trouble::BegunApart => f.write_str("the two days do not begin with one face"),
-        }
-    }
-}
-
-impl From<Mishap> for Trouble<'_> {
-    fn from(mishap: Mishap) -> Self {
-        Trouble::Mishap(mishap)
-    }
-}
-
+// One impl for all that a Failure is made of would overlap with that of a Denial, and a variant for each
+// would say the texts of Failure again.
 impl From<AllocError> for Trouble<'_> {
-    fn from(_error: AllocError) -> Self {
-        Trouble::Mishap(Mishap::Memory)
+    fn from(error: AllocError) -> Self {
+        Trouble::Failed(Failure::from(error))
     }
 }
 
 impl<T: Drop> From<AllocFailed<T>> for Trouble<'_> {
-    fn from(_refused: AllocFailed<T>) -> Self {
-        Trouble::Mishap(Mishap::Memory)
+    fn from(refused: AllocFailed<T>) -> Self {
+        Trouble::Failed(Failure::from(refused))
     }
 }
 
 impl From<io::Error> for Trouble<'_> {
     fn from(error: io::Error) -> Self {
-        Trouble::Mishap(Mishap::Io(error.kind()))
+        Trouble::Failed(Failure::from(error))
     }
 }

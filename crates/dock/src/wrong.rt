@@ -1,9 +1,11 @@
 //! What can be wrong in a line of a script.
-use std::alloc::{AllocError, AllocFailed};
+use hex::FromHexError;
+use std::alloc::AllocError;
 use std::fmt;
+use thiserror::Error;
 
 /// What a word of a line stands for.
-#[derive(Clone, Copy)]
+#[derive(Clone, Copy, Debug)]
 pub(crate) enum Thing {
     BlockCount,
     MapFile,
@@ -26,53 +28,35 @@ impl fmt::Display for Thing {
     }
 }
 
-#[derive(Clone, Copy)]
+#[derive(Clone, Copy, Debug, Error)]
 pub(crate) enum Wrong {
+    #[error("it is no UTF-8 text")]
     NoText,
+    #[error("there is no such call; use format, resume, write, read, beat, face or save")]
     NoSuchCall,
+    #[error("there is no store yet; put a line with format or resume before it")]
     NoMaking,
+    #[error("{0} is missing")]
     Missing(Thing),
+    #[error("{0} is no number that fits; use decimal digits")]
     NotNumber(Thing),
+    #[error("no beats at all; leave the line out")]
     NoBeats,
+    #[error("more than 100000 beats in one line; use several lines")]
     ManyBeats,
+    #[error("a value is two hex digits a byte, of 0 to 9 and a to f, or - for an empty one")]
     NotHex,
+    #[error("there are more words than the call takes")]
     WordsLeft,
-    Memory,
+    #[error("there is no memory for it")]
+    Memory(#[from(alloc)] AllocError),
 }
 
-impl fmt::Display for Wrong {
-    fn fmt<W: fmt::Write>(&self, f: &mut fmt::Formatter<W>) -> fmt::Result {
-        f.write_str(match *self {
-            Wrong::Missing(what) => return write!(f, "{what} is missing"),
-            Wrong::NotNumber(what) => {
-                return write!(f, "{what} is no number that fits; use decimal digits");
-            }
-            Wrong::NoText => "it is no UTF-8 text",
-            Wrong::NoSuchCall => {
-                "there is no such call; use format, resume, write, read, beat, face or save"
-            }
-            Wrong::NoMaking => {
-                "there is no store yet; put a line with format or resume before it"
-            }
-            Wrong::NoBeats => "no beats at all; leave the line out",
-            Wrong::ManyBeats => "more than 100000 beats in one line; use several lines",
-            Wrong::NotHex => {
-                "a value is two hex digits a byte, of 0 to 9 and a to f, or - for an empty one"
-            }
-            Wrong::WordsLeft => "there are more words than the call takes",
-            Wrong::Memory => "there is no memory for it",
-        })
-    }
-}
-
-impl From<AllocError> for Wrong {
-    fn from(_error: AllocError) -> Wrong {
-        Wrong::Memory
-    }
-}
-
-impl<T: Drop> From<AllocFailed<T>> for Wrong {
-    fn from(_refused: AllocFailed<T>) -> Wrong {
-        Wrong::Memory
+impl From<FromHexError> for Wrong {
+    fn from(error: FromHexError) -> Wrong {
+        match error {
+            FromHexError::OutOfMemory => Wrong::Memory(AllocError),
+            _ => Wrong::NotHex,
+        }
     }
 }

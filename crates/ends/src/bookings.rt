@@ -1,13 +1,6 @@
 //! The bookings of the example.
-use layout::body::Body;
+use example::booking::Booking;
 use layout::names::Block;
-
-/// A booking: the block that keeps it, and its text.
-#[derive(Clone, Copy)]
-pub(crate) struct Booking {
-    pub block: Block,
-    pub text: &'static str,
-}
 
 pub(crate) const BOOKINGS: [Booking; 8] = [
     Booking {
@@ -43,17 +36,3 @@ pub(crate) const BOOKINGS: [Booking; 8] = [
         text: "D6SY Paul Weiss, room 2, one night",
     },
 ];
-
-impl Booking {
-    /// The body that is sealed: the text in front, zeros behind it.
-    pub(crate) fn body(&self) -> Body {
-        let mut value = [0; 48];
-        for (slot, byte) in value.iter_mut().zip(self.text.bytes()) {
-            *slot = byte;
-        }
-        Body {
-            block: self.block,
-            value,
-        }
-    }
-}

@@ -1,5 +1,5 @@
 //! The desk: one card and one seal, and what is done with them together.
-ghost use Rattle.std.specs.Prelude.{◌≡◌, true, [], IfOk, Some, slice_index_or, slice_set};
+ghost use Rattle.std.specs.Prelude.{◌≡◌, [], IfOk, Some, slice_index_or, slice_set};
 ghost use Rattle.layout.specs.Layouts.{body_of, counter_in};
 
 use crate::trouble::Trouble;
@@ -9,28 +9,18 @@ use layout::names::Place;
 use layout::records::clear_counter;
 use seal::seal::Seal;
 
-/// What should lie at a place.
+/// What lies at a place.
+#[derive(Clone, Copy, PartialEq, Eq)]
+pub(crate) struct Kept {
+    pub counter: u32,
+    pub body: Body,
+}
+
+/// What should lie at which place.
 #[derive(Clone, Copy)]
 pub(crate) struct Entry {
     pub at: Place,
-    pub counter: u32,
-    pub body: Body,
-}
-
-/// What was found at a place.
-#[derive(Clone, Copy)]
-pub(crate) struct Opened {
-    pub counter: u32,
-    pub body: Body,
-}
-
-impl Opened {
-    /// Whether this is what the list says.
-    pub(crate) fn is(&self, listed: &Entry) -> bool
-        ensures { result ≡ true → (self.now.counter ≡ listed.now.counter) × (body_of self.now.body.block.0 self.now.body.value ≡ body_of listed.now.body.block.0 listed.now.body.value) }
-    {
-        self.counter == listed.counter && self.body.to_bytes() == listed.body.to_bytes()
-    }
+    pub kept: Kept,
 }
 
 #[derive(Drop)]
@@ -42,11 +32,15 @@ pub(crate) struct Desk<C: Card, S: Seal> {
 impl<C: Card, S: Seal> Desk<C, S> {
     /// Seals a booking for its place, puts the record there, and hands back a copy of it.
     pub(crate) fn keep(&mut self, new: &Entry) -> Result<[u8; 64], Trouble>
-        ensures { IfOk result (λ b. (b ≡ (S.Seal.rules self.old.seal).sealed new.now.at.0 new.now.counter (body_of new.now.body.block.0 new.now.body.value)) × (C.Card.records self.new.card ≡ slice_set (C.Card.records self.old.card) new.now.at.0 b)) }
+        ensures { IfOk result (λ b. (b ≡ (S.Seal.rules self.old.seal).sealed new.now.at.0 new.now.kept.counter (body_of new.now.kept.body.block.0 new.now.kept.body.value)) × (C.Card.records self.new.card ≡ slice_set (C.Card.records self.old.card) new.now.at.0 b)) }
     {
         let mut record = [0; 64];
-        self.seal
-            .seal(new.at, new.counter, &new.body.to_bytes(), &mut record)?;
+        self.seal.seal(
+            new.at,
+            new.kept.counter,
+            &new.kept.body.to_bytes(),
+            &mut record,
+        )?;
         self.card.put(new.at, &record)?;
         Ok(record)
     }
@@ -61,13 +55,13 @@ impl<C: Card, S: Seal> Desk<C, S> {
     }
 
     /// Opens the record at a place.
-    pub(crate) fn open_at(&self, at: Place) -> Result<Opened, Trouble>
+    pub(crate) fn open_at(&self, at: Place) -> Result<Kept, Trouble>
         ensures { IfOk result (λ o. (S.Seal.rules self.now.seal).opened at.0 (slice_index_or (C.Card.records self.now.card) at.0 []) ≡ Some (o.counter, body_of o.body.block.0 o.body.value)) }
     {
         let record = self.record_at(at)?;
         let mut bytes = [0; 52];
         let counter = self.seal.open(at, &record, &mut bytes)?;
-        Ok(Opened {
+        Ok(Kept {
             counter,
             body: Body::from_bytes(&bytes),
         })

@@ -2,7 +2,6 @@
 use crate::desk::{Desk, Entry};
 use crate::trouble::{Denied, Trouble};
 use card::card::Card;
-use denial::Fault;
 use layout::names::Place;
 use seal::seal::Seal;
 use std::fmt;
@@ -40,12 +39,15 @@ pub(crate) struct Trial {
 }
 
 impl Attempt {
-    fn denied<T: Drop, F: Fault + Drop>(self, answer: Result<T, F>) -> Result<Trial, Trouble> {
+    fn denied<T: Drop, F: Into<Denied> + Drop>(
+        self,
+        answer: Result<T, F>,
+    ) -> Result<Trial, Trouble> {
         match answer {
             Ok(_) => Err(Trouble::Granted),
             Err(fault) => Ok(Trial {
                 attempt: self,
-                denied: Denied::by(&fault),
+                denied: fault.into(),
             }),
         }
     }

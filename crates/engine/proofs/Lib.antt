@@ -1,4 +1,2 @@
 pub mod Beats
-pub mod Faces
-pub mod Fills
 pub mod Writes

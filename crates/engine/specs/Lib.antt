@@ -1,2 +1,3 @@
+pub mod Running
 pub mod Steps
 pub mod View

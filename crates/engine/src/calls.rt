@@ -1,14 +1,10 @@
-ghost use Rattle.std.specs.Prelude.{◌≡◌, ℕ, ◌%◌, ◌<◌, [], length, None};
+ghost use Rattle.std.specs.Prelude.{◌≡◌, ◌<◌, true, [], length, is_ok};
 ghost use Rattle.layout.specs.Layouts.{body_of};
-ghost use Rattle.machine.specs.Machine.{Written, Valued, Saved, Shown, opened_at, occupant, write_step, read_step, beat_step, beat_place, occupied_beat, vacant_beat, beaten, save_step, face_step};
-ghost use Rattle.tables.specs.Views.{waited, placed};
-ghost use Rattle.answers.specs.Told.{deed_told};
-ghost use Rattle.engine.specs.Steps.{answer_by, beat_told};
-ghost use Rattle.engine.specs.View.{machine, outcome};
+ghost use Rattle.machine.specs.Machine.{Written, Valued, Saved, Shown, write_step, read_step, beat_step, save_step, face_step};
+ghost use Rattle.engine.specs.Steps.{answer_by, as_reason, by_place, beat_told, choice, choice_told, outcome, place_drawn, with_sealed};
 
 use super::state::OpenStore;
 use crate::records::{clear_at, open_at};
-use crate::values::filled_value;
 use answers::beat::{Beat, Deed};
 use answers::denials::Denial;
 use answers::fault::StoreFault;
@@ -16,28 +12,27 @@ use card::card::Card;
 use card::fault::CardFault;
 use layout::body::Body;
 use layout::names::{Block, Place};
+use layout::values::filled_value;
 use mapfile::encode::encode;
 use seal::seal::Seal;
+use tables::waiting::Full;
 use tape::fault::TapeFault;
 use tape::tape::Tape;
 
 impl<C: Card, S: Seal, T: Tape> OpenStore<C, S, T> {
     /// Takes a block's new value onto the waiting list, filled with zeros. The card is not touched.
     pub fn write(&mut self, block: Block, value: &[u8]) -> Result<(), Denial>
-        ensures step { outcome C.Card.records T.Tape.words (answer_by (λ _. Written) result) [] self.new ≡ write_step (machine C.Card.records T.Tape.words self.old) block.0 value.now }
+        ensures step { outcome (answer_by (λ _. Written) result) [] self.new.machine ≡ write_step self.old.machine block.0 value.now }
         ensures seal { self.new.seal ≡ self.old.seal }
     {
-        if block.0 >= self.map.blocks() {
+        if block.0 >= self.memory.map.blocks() {
             return Err(Denial::ByStore(StoreFault::BlockBeyond));
         }
-        let Some(value) = filled_value(value) else {
-            return Err(Denial::ByStore(StoreFault::ValueLong));
-        };
-        if let Some(slot) = self.waiting.slot_of(block) {
-            slot.value = value;
+        let value = filled_value(value).ok_or(StoreFault::ValueLong)?;
+        if self.memory.waiting.replace(block, value).is_some() {
             return Ok(());
         }
-        if !self.waiting.join(Body { block, value }) {
+        if let Err(Full) = self.memory.waiting.join(Body { block, value }) {
             return Err(Denial::ByStore(StoreFault::ListFull));
         }
         Ok(())
@@ -45,97 +40,45 @@ impl<C: Card, S: Seal, T: Tape> OpenStore<C, S, T> {
 
     /// Reads a block's waiting value, else its landed one, else zeros.
     pub fn read(&self, block: Block, buffer: &mut [u8]) -> Result<(), Denial>
-        ensures { outcome C.Card.records T.Tape.words (answer_by (λ _. Valued) result) buffer.new self.now ≡ read_step (S.Seal.rules self.now.seal) (machine C.Card.records T.Tape.words self.now) block.0 buffer.old }
+        ensures { outcome (answer_by (λ _. Valued) result) buffer.new self.now.machine ≡ read_step (S.Seal.rules self.now.seal) self.now.machine block.0 buffer.old }
     {
-        if block.0 >= self.map.blocks() {
+        if block.0 >= self.memory.map.blocks() {
             return Err(Denial::ByStore(StoreFault::BlockBeyond));
         }
         if buffer.len() != 48 {
             return Err(Denial::ByStore(StoreFault::BufferLength));
         }
-        if let Some(value) = self.waiting.value_of(block) {
+        if let Some(value) = self.memory.waiting.value_of(block) {
             buffer.copy_from_slice(&value);
             return Ok(());
         }
-        let Some(place) = self.map.lookup(block) else {
+        let Some(place) = self.memory.map.lookup(block) else {
             buffer.copy_from_slice(&[0u8; 48]);
             return Ok(());
         };
-        let body = open_at(&self.card, &self.seal, place)?;
+        let body = open_at(&self.ends.card, &self.ends.seal, place)?;
         buffer.copy_from_slice(&Body::from_bytes(&body).value);
         Ok(())
     }
 
     /// One card write: the block that has the drawn place is sealed again, else the first in turn lands, else a dummy is sealed.
     pub fn beat(&mut self) -> Result<Beat, Denial>
-        ensures step { outcome C.Card.records T.Tape.words (answer_by beat_told result) [] self.new ≡ beat_step (S.Seal.rules self.old.seal) (machine C.Card.records T.Tape.words self.old) }
+        ensures step { outcome (answer_by beat_told result) [] self.new.machine ≡ beat_step (S.Seal.rules self.old.seal) self.old.machine }
         ensures seal { self.new.seal ≡ self.old.seal }
     {
-        if !self.tape.more() {
+        if !self.ends.tape.more() {
             return Err(Denial::ByTape(TapeFault::Spent));
         }
-        if self.last == u32::MAX {
-            return Err(Denial::ByStore(StoreFault::CounterSpent));
+        let counter = self.memory.last.checked_add(1);
+        let counter = counter.ok_or(StoreFault::CounterSpent)?;
+        let word = self.ends.tape.draw()?;
+        let place = self.place_of(word)?;
+        let (body, deed) = self.choose(place)?;
+        self.seal_at(place, counter, body)?;
+        if let Deed::Landed(block) = deed {
+            let _ = self.memory.map.settle(block, place);
+            let _ = self.memory.waiting.take_first();
         }
-        let word = self.tape.draw()?;
-        self.beat_with(word)
-    }
-
-    fn beat_with(&mut self, word: u32) -> Result<Beat, Denial>
-        requires { self.old.last < 4294967295 }
-        ensures step { outcome C.Card.records T.Tape.words (answer_by beat_told result) [] self.new ≡ beat_place (S.Seal.rules self.old.seal) (machine C.Card.records T.Tape.words self.old) (word % length (C.Card.records self.old.card)) }
-        ensures seal { self.new.seal ≡ self.old.seal }
-    {
-        let count = self.card.count();
-        if count == 0 {
-            return Err(Denial::ByCard(CardFault::Beyond(Place(word))));
-        }
-        let place = Place(word % count);
-        match self.map.occupant(place) {
-            Some(block) => self.beat_occupied(place, block),
-            None => self.beat_vacant(place),
-        }
-    }
-
-    /// Seals the block at an occupied place again, with the value that lies there.
-    fn beat_occupied(&mut self, place: Place, block: Block) -> Result<Beat, Denial>
-        requires { (self.old.last < 4294967295) × (place.0 < length (C.Card.records self.old.card)) }
-        ensures step { outcome C.Card.records T.Tape.words (answer_by beat_told result) [] self.new ≡ occupied_beat (S.Seal.rules self.old.seal) (machine C.Card.records T.Tape.words self.old) place.0 block.0 (opened_at (S.Seal.rules self.old.seal) (C.Card.records self.old.card) place.0) }
-        ensures seal { self.new.seal ≡ self.old.seal }
-    {
-        let old = open_at(&self.card, &self.seal, place)?;
-        let value = Body::from_bytes(&old).value;
-        self.seal_at(place, Body { block, value }, Deed::SealedAgain(block))
-    }
-
-    /// Lands the first block in turn at a vacant place, or seals a dummy there.
-    fn beat_vacant(&mut self, place: Place) -> Result<Beat, Denial>
-        requires in_range { (self.old.last < 4294967295) × (place.0 < length (C.Card.records self.old.card)) }
-        requires vacant { occupant (placed self.old.map.places.items) place.0 ≡ None }
-        ensures step { outcome C.Card.records T.Tape.words (answer_by beat_told result) [] self.new ≡ vacant_beat (S.Seal.rules self.old.seal) (machine C.Card.records T.Tape.words self.old) place.0 (waited self.old.waiting.slots.items) }
-        ensures seal { self.new.seal ≡ self.old.seal }
-    {
-        let Some(slot) = self.waiting.first() else {
-            return self.seal_at(place, Body::dummy(), Deed::Dummy);
-        };
-        let beat = self.seal_at(place, slot, Deed::Landed(slot.block))?;
-        let _ = self.map.settle(slot.block, place);
-        let _ = self.waiting.take_first();
-        Ok(beat)
-    }
-
-    /// Seals a body at a place under the next counter.
-    fn seal_at(&mut self, place: Place, body: Body, deed: Deed) -> Result<Beat, Denial>
-        requires { (self.old.last < 4294967295) × (place.0 < length (C.Card.records self.old.card)) }
-        ensures step { outcome C.Card.records T.Tape.words (answer_by beat_told result) [] self.new ≡ beaten (S.Seal.rules self.old.seal) (machine C.Card.records T.Tape.words self.old) place.0 (body_of body.block.0 body.value) (deed_told deed) (placed self.old.map.places.items) (waited self.old.waiting.slots.items) }
-        ensures seal { self.new.seal ≡ self.old.seal }
-    {
-        let counter = self.last + 1;
-        let mut bytes = [0; 64];
-        self.seal
-            .seal(place, counter, &body.to_bytes(), &mut bytes)?;
-        self.card.put(place, &bytes)?;
-        self.last = counter;
         Ok(Beat {
             place,
             counter,
@@ -143,29 +86,71 @@ impl<C: Card, S: Seal, T: Tape> OpenStore<C, S, T> {
         })
     }
 
+    /// The place that a word of the tape gives.
+    fn place_of(&self, word: u32) -> Result<Place, Denial>
+        ensures { by_place result ≡ as_reason (place_drawn (length self.now.machine.card) word) }
+    {
+        let count = self.ends.card.count();
+        if count == 0 {
+            return Err(Denial::ByCard(CardFault::Beyond(Place(word))));
+        }
+        Ok(Place(word % count))
+    }
+
+    /// What a beat seals at a place: the block that has it, with the value that lies there,
+    /// else the first in turn, else a dummy.
+    fn choose(&self, place: Place) -> Result<(Body, Deed), Denial>
+        ensures { choice_told result ≡ as_reason (choice (S.Seal.rules self.now.seal) self.now.machine place.0) }
+    {
+        if let Some(block) = self.memory.map.occupant(place) {
+            let old = open_at(&self.ends.card, &self.ends.seal, place)?;
+            let value = Body::from_bytes(&old).value;
+            return Ok((Body { block, value }, Deed::SealedAgain(block)));
+        }
+        match self.memory.waiting.first() {
+            Some(slot) => Ok((slot, Deed::Landed(slot.block))),
+            None => Ok((Body::dummy(), Deed::Dummy)),
+        }
+    }
+
+    /// Seals a body at a place under a counter, which becomes the last.
+    fn seal_at(&mut self, place: Place, counter: u32, body: Body) -> Result<(), Denial>
+        requires { place.0 < length self.old.machine.card }
+        ensures granted { is_ok result ≡ true }
+        ensures machine { self.new.machine ≡ with_sealed (S.Seal.rules self.old.seal) self.old.machine place.0 counter (body_of body.block.0 body.value) }
+        ensures seal { self.new.seal ≡ self.old.seal }
+    {
+        let mut bytes = [0; 64];
+        self.ends
+            .seal
+            .seal(place, counter, &body.to_bytes(), &mut bytes)?;
+        self.ends.card.put(place, &bytes)?;
+        self.memory.last = counter;
+        Ok(())
+    }
+
     /// The map file into the front of the buffer, and its length. A store whose blocks wait has none.
     pub fn save(&self, buffer: &mut [u8]) -> Result<usize, Denial>
-        ensures { outcome C.Card.records T.Tape.words (answer_by Saved result) buffer.new self.now ≡ save_step (machine C.Card.records T.Tape.words self.now) buffer.old }
+        ensures { outcome (answer_by Saved result) buffer.new self.now.machine ≡ save_step self.now.machine buffer.old }
     {
-        if self.waiting.len() > 0 {
+        if self.memory.waiting.len() > 0 {
             return Err(Denial::ByStore(StoreFault::BlocksWait));
         }
-        let Some(length) = encode(&self.map, self.card.count(), self.last, buffer) else {
-            return Err(Denial::ByStore(StoreFault::BufferLength));
-        };
-        Ok(length)
+        let count = self.ends.card.count();
+        let length = encode(&self.memory.map, count, self.memory.last, buffer);
+        length.ok_or(Denial::ByStore(StoreFault::BufferLength))
     }
 
     /// The card's face: its clear counters in place order.
     pub fn face(&self, buffer: &mut [u32]) -> Result<(), Denial>
-        ensures { outcome C.Card.records T.Tape.words (answer_by (λ _. Shown) result) buffer.new self.now ≡ face_step (machine C.Card.records T.Tape.words self.now) buffer.old }
+        ensures { outcome (answer_by (λ _. Shown) result) buffer.new self.now.machine ≡ face_step self.now.machine buffer.old }
     {
-        let count = self.card.count();
+        let count = self.ends.card.count();
         if buffer.len() != count as usize {
             return Err(Denial::ByStore(StoreFault::BufferLength));
         }
-        for i in 0..count {
-            buffer[i as usize] = clear_at(&self.card, Place(i))?;
+        for (i, slot) in buffer.iter_mut().enumerate() {
+            *slot = clear_at(&self.ends.card, Place(i as u32))?;
         }
         Ok(())
     }

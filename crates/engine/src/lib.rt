@@ -4,4 +4,3 @@
 pub mod calls;
 pub mod records;
 pub mod state;
-pub mod values;

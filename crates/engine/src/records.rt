@@ -9,6 +9,7 @@ use layout::names::Place;
 use layout::records::clear_counter;
 use seal::seal::Seal;
 
+// Card and seal without the tape, from which an opening may not draw.
 /// The body to which the record at a place opens.
 pub fn open_at<C: Card, S: Seal>(card: &C, seal: &S, place: Place) -> Result<[u8; 52], Denial>
     ensures { by_reason result ≡ as_reason (opened_at (S.Seal.rules seal.now) (C.Card.records card.now) place.0) }

@@ -1,3 +1,4 @@
 pub mod Apart
+pub mod Fills
 pub mod Littles
 pub mod Pieces

@@ -31,9 +31,6 @@ further : (n a b m : ℕ) → a * b ≡ m → n / m ≡ n / a / b
 further n a b m e = sym (div-div-eq-div-mul n a b ∙ ap (λ (k : ℕ). n / k) e)
 
 -- what the language's own conversions give, at the widths in use
-pub little_two : (n : ℕ) → n % 256 ∷ n / 256 % 256 ∷ [] ≡ little 2 n
-little_two n = refl
-
 pub little_four : (n : ℕ) → n % 256 ∷ n / 256 % 256 ∷ n / 65536 % 256 ∷ n / 16777216 % 256 ∷ [] ≡ little 4 n
 little_four n =
     let two = further n 256 256 65536 refl in
@@ -51,6 +48,3 @@ little_eight n =
     let six = further n 1099511627776 256 281474976710656 refl ∙ ap (λ (k : ℕ). k / 256) five in
     let seven = further n 281474976710656 256 72057594037927936 refl ∙ ap (λ (k : ℕ). k / 256) six in
     cc
-
-pub number_four : (a b c d : ℕ) → a + b * 256 + c * 65536 + d * 16777216 ≡ number (a ∷ b ∷ c ∷ d ∷ [])
-number_four a b c d = omega arith

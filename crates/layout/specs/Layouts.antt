@@ -1,5 +1,5 @@
 -- The byte layout of a body and of a record.
-use Rattle.std.specs.Prelude.{◌≡◌, ℕ, List, ◌++◌, map, length, take, drop, replicate}
+use Rattle.std.specs.Prelude.{◌≡◌, ℕ, cond, List, ◌++◌, map, length, take, drop, replicate, Some, None, Option, nat_le}
 use Rattle.layout.specs.Numbers.{Bytes, little, number}
 
 -- A body: a block number in 4 bytes, then a value of 48.
@@ -15,6 +15,14 @@ value_in body = drop 4 body
 -- the value that nobody wrote
 abbrev pub zeros : Bytes
 zeros = replicate 48 0
+
+-- a value of at most 48 bytes, filled with zeros
+unfoldable pub filled : Bytes → Bytes
+filled value = take 48 (value ++ zeros)
+
+-- and that, or none for a value that is longer
+abbrev pub filled_of : Bytes → Option Bytes
+filled_of value = cond (nat_le (length value) 48) (Some (filled value)) None
 
 -- no block: the number that a dummy body has
 abbrev pub no_block : ℕ

@@ -3,9 +3,10 @@ ghost use Rattle.std.specs.Prelude.{◌≡◌};
 ghost use Rattle.layout.specs.Layouts.{body_of, block_in, value_in, no_block, zeros, dummy_body, BodyApart};
 
 use crate::names::Block;
+use crate::numbers::first_number;
 
 /// A block and its value, as they are sealed: 52 bytes.
-#[derive(Clone, Copy)]
+#[derive(Clone, Copy, PartialEq, Eq, Debug)]
 pub struct Body {
     pub block: Block,
     pub value: [u8; 48],
@@ -22,6 +23,7 @@ impl Body {
         }
     }
 
+    // Named as std names `to_le_bytes`: `From` would not say that these bytes are a layout.
     pub fn to_bytes(self) -> [u8; 52]
         ensures laid_out { result ≡ body_of self.block.0 self.value }
         ensures comes_apart_again { BodyApart self.block.0 self.value result }
@@ -32,13 +34,16 @@ impl Body {
         bytes
     }
 
+    // Named so for the same reason.
     pub fn from_bytes(bytes: &[u8; 52]) -> Body
         ensures taken_apart { (result.block.0 ≡ block_in bytes.now) × (result.value ≡ value_in bytes.now) }
         ensures goes_together_again { body_of result.block.0 result.value ≡ bytes.now }
     {
-        let block = Block(u32::from_le_bytes([bytes[0], bytes[1], bytes[2], bytes[3]]));
         let mut value = [0; 48];
         value.copy_from_slice(&bytes[4..52]);
-        Body { block, value }
+        Body {
+            block: Block(first_number(bytes)),
+            value,
+        }
     }
 }

@@ -3,4 +3,6 @@
 
 pub mod body;
 pub mod names;
+mod numbers;
 pub mod records;
+pub mod values;

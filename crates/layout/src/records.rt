@@ -2,8 +2,10 @@
 ghost use Rattle.std.specs.Prelude.{◌≡◌};
 ghost use Rattle.layout.specs.Layouts.{record_of, counter_in, sealed_in, tag_in, RecordApart};
 
+use crate::numbers::first_number;
+
 /// A clear counter, a sealed body and a tag: 64 bytes.
-#[derive(Clone, Copy)]
+#[derive(Clone, Copy, PartialEq, Eq, Debug)]
 pub struct Record {
     pub counter: u32,
     pub sealed: [u8; 52],
@@ -11,6 +13,7 @@ pub struct Record {
 }
 
 impl Record {
+    // Named as std names `to_le_bytes`: `From` would not say that these bytes are a layout.
     pub fn to_bytes(self) -> [u8; 64]
         ensures laid_out { result ≡ record_of self.counter self.sealed self.tag }
         ensures comes_apart_again { RecordApart self.counter self.sealed self.tag result }
@@ -22,6 +25,7 @@ impl Record {
         bytes
     }
 
+    // Named so for the same reason.
     pub fn from_bytes(bytes: &[u8; 64]) -> Record
         ensures counter { result.counter ≡ counter_in bytes.now }
         ensures sealed { result.sealed ≡ sealed_in bytes.now }
@@ -44,5 +48,5 @@ impl Record {
 pub fn clear_counter(bytes: &[u8; 64]) -> u32
     ensures { result ≡ counter_in bytes.now }
 {
-    u32::from_le_bytes([bytes[0], bytes[1], bytes[2], bytes[3]])
+    first_number(bytes)
 }

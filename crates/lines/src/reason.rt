@@ -1,18 +1,16 @@
 //! Denials in words, for a person: what is wrong, and what to do.
-use crate::reply::Denied;
 use answers::denials::Denial;
 use answers::fault::StoreFault;
 use std::fmt;
 
 /// A denial's line and its reason in words.
+// A wrapper: its words are a script's or a person's, and its type another crate's.
 #[derive(Clone, Copy)]
 pub struct Explained(pub Denial);
 
 impl fmt::Display for Explained {
     fn fmt<W: fmt::Write>(&self, f: &mut fmt::Formatter<W>) -> fmt::Result {
-        let denied = Denied(self.0);
-        let reason = reason_of(self.0);
-        write!(f, "{denied}: {reason}")
+        write!(f, "{}: {}", self.0, reason_of(self.0))
     }
 }
 

@@ -5,7 +5,8 @@ use Rattle.layout.specs.Numbers.{Bytes}
 use Rattle.denial.specs.Denials.{Denial, block_beyond, value_long, blocks_wait, buffer_length, list_full, tape_spent, counter_spent}
 use Rattle.seal.specs.Seals.{Rules, Lawful}
 use Rattle.machine.specs.Files.{file_length_of}
-use Rattle.machine.specs.Machine.{Machine, Call, Write, Read, Beat, Save, Face, Reason, DenialOf, Answer, Denied, Outcome, denied, awaited, altered, filled, written, write_waiting, beat_tape, save_waiting, step}
+use Rattle.layout.specs.Layouts.{filled}
+use Rattle.machine.specs.Machine.{Machine, Call, Write, Read, Beat, Save, Face, Reason, DenialOf, Answer, Denied, Outcome, denied, awaited, altered, written, write_waiting, beat_tape, save_waiting, step}
 use Rattle.machine.specs.Makings.{among, handed}
 use Rattle.machine.specs.Checks.{first_that_holds, in_turn, call_checks, reason_in}
 use Rattle.machine.specs.Law.{IsBeat, Own}

@@ -4,11 +4,11 @@ use Rattle.std.specs.List.{AllByRecursion as All}
 use Rattle.std.proofs.lemmas.List.{length-set, length-append, length-take, length-drop, map-set, get_or-set_same, get_or-set_other}
 use Rattle.std.proofs.lemmas.Bool.{cond-true, lt-ltb, ltb-true}
 use Rattle.layout.specs.Numbers.{Bytes, number}
-use Rattle.layout.specs.Layouts.{block_in, value_in, counter_in, face}
+use Rattle.layout.specs.Layouts.{block_in, value_in, filled, counter_in, face}
 use Rattle.layout.proofs.Littles.{number_little}
 use Rattle.denial.specs.Denials.{place_beyond}
 use Rattle.seal.specs.Seals.{Rules, Lawful}
-use Rattle.machine.specs.Machine.{Machine, awaited, opened_body, opened_at, filled}
+use Rattle.machine.specs.Machine.{Machine, awaited, opened_body, opened_at}
 use Rattle.machine.specs.Runs.{value_at}
 use Rattle.machine.proofs.Lookups.{Once}
 

@@ -6,11 +6,11 @@ use Rattle.std.proofs.lemmas.List.{length-set, get_or-set_same, get_or-set_other
 use Rattle.std.proofs.ByRecursion.{All-push, All-set, All-weaker}
 use Rattle.std.proofs.lemmas.Bool.{cond_both, lt-ltb, le-leb, ltb-true, leb-true, eqb-true, eqb-false, eq-eqb, ne_eqb, cases_eq}
 use Rattle.layout.specs.Numbers.{Bytes}
-use Rattle.layout.specs.Layouts.{body_of, block_in, value_in, zeros, no_block, dummy_body, face, BodyApart}
+use Rattle.layout.specs.Layouts.{body_of, block_in, value_in, zeros, filled, no_block, dummy_body, face, BodyApart}
 use Rattle.layout.proofs.Apart.{body_apart}
 use Rattle.denial.specs.Denials.{Denial}
 use Rattle.seal.specs.Seals.{Rules, Lawful}
-use Rattle.machine.specs.Machine.{Machine, Call, Write, Read, Beat, Save, Face, Deed, Dummy, Landed, Resealed, Reason, DenialOf, Answer, Written, Valued, Beaten, Saved, Shown, Denied, Outcome, denied, occupant, awaited, altered, opened_at, filled, with_waiting, written, write_waiting, write_step, valued, read_landed, read_waiting, read_step, with_tape, beaten, occupied_beat, vacant_beat, beat_at, beat_tape, save_waiting, face_step, step}
+use Rattle.machine.specs.Machine.{Machine, Call, Write, Read, Beat, Save, Face, Deed, Dummy, Landed, Resealed, Reason, DenialOf, Answer, Written, Valued, Beaten, Saved, Shown, Denied, Outcome, denied, occupant, awaited, altered, opened_at, with_waiting, written, write_waiting, write_step, valued, read_landed, read_waiting, read_step, with_tape, beaten, occupied_beat, vacant_beat, beat_at, beat_tape, save_waiting, face_step, step}
 use Rattle.machine.specs.Runs.{later, value_opened, value_at}
 use Rattle.machine.specs.Law.{NoBeat, IsBeat, Done, OnePut, RestKept, FromAbove}
 use Rattle.machine.proofs.Lookups.{Once, some_same, altered_same, altered_other, pushed_same, pushed_other, once_altered, once_pushed, all_altered, occupant_placed, vacant_place, placed_below}

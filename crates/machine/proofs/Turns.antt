@@ -3,10 +3,10 @@ use Rattle.std.proofs.Common.{◌≡◌, ℕ, ◌+◌, ◌-◌, ◌≤◌, Bool,
 use Rattle.std.proofs.lemmas.List.{length-append, length-replicate, replicate-append-replicate, append_assoc, take_at}
 use Rattle.std.proofs.lemmas.Bool.{cond_both, eqb-true, leb-true}
 use Rattle.layout.specs.Numbers.{Bytes}
-use Rattle.layout.specs.Layouts.{zeros}
+use Rattle.layout.specs.Layouts.{zeros, filled}
 use Rattle.seal.specs.Seals.{Rules, Lawful}
 use Rattle.machine.specs.Files.{file_length_of}
-use Rattle.machine.specs.Machine.{Machine, Call, Write, Read, Beat, Save, Face, Denied, Outcome, Reason, Written, awaited, altered, filled, write_waiting, write_step, save_waiting, step}
+use Rattle.machine.specs.Machine.{Machine, Call, Write, Read, Beat, Save, Face, Denied, Outcome, Reason, Written, awaited, altered, write_waiting, write_step, save_waiting, step}
 use Rattle.machine.specs.Checks.{in_turn}
 use Rattle.machine.specs.Law.{TurnKept, Looks}
 use Rattle.machine.proofs.Lookups.{altered_same, altered_other, pushed_same, pushed_other}

@@ -1,10 +1,9 @@
 -- The worked run computes, and is a run.
 use Rattle.std.proofs.Common.{[], ◌∷◌, replicate, refl}
-use Rattle.layout.specs.Layouts.{body_of, block_in, value_in, record_of, counter_in, sealed_in, tag_in}
+use Rattle.layout.specs.Layouts.{body_of, block_in, value_in, filled, record_of, counter_in, sealed_in, tag_in}
 use Rattle.seal.specs.Schemes.{bench_cover, bench_tag}
 use Rattle.seal.specs.Schemed.{Fit, lawful}
 use Rattle.machine.specs.Files.{file_of, entries}
-use Rattle.machine.specs.Machine.{filled}
 use Rattle.machine.specs.Makings.{Format, formatted}
 use Rattle.machine.specs.Runs.{Run}
 use Rattle.machine.specs.Worked.{bench, worked_calls, Worked, WorkedIsARun}

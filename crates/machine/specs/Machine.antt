@@ -1,8 +1,8 @@
 -- The hiding machine: its state, and what each call answers and leaves.
 -- A state that no made store reaches may meet 15, 16 or 17; they are then passed on.
-use Rattle.std.specs.Prelude.{ℕ, suc, ◌+◌, ◌%◌, cond, List, [], ◌∷◌, ◌++◌, length, take, drop, Some, None, Ok, Err, Option, Result, ◌==◌, nat_le, nat_lt, slice_index_or, slice_set}
+use Rattle.std.specs.Prelude.{ℕ, suc, ◌+◌, ◌%◌, cond, List, [], ◌∷◌, ◌++◌, length, drop, Some, None, Ok, Err, Option, Result, ◌==◌, nat_le, nat_lt, slice_index_or, slice_set}
 use Rattle.layout.specs.Numbers.{Bytes}
-use Rattle.layout.specs.Layouts.{body_of, value_in, zeros, dummy_body, face}
+use Rattle.layout.specs.Layouts.{body_of, value_in, zeros, filled, dummy_body, face}
 use Rattle.denial.specs.Denials.{Denial, tape_spent, place_beyond, wrong_size, wrong_tag, block_beyond, value_long, blocks_wait, buffer_length, list_full, counter_spent}
 use Rattle.denial.specs.declared.Layer.TheVariants.{Seal}
 use Rattle.seal.specs.Seals.{Rules}
@@ -98,10 +98,6 @@ opened_at rules card p =
     cond (nat_lt p (length card)) (opened_body p (slice_index_or card p []) (rules.opened p (slice_index_or card p []))) (Err (place_beyond p))
 
 -- ---- write
-
--- a value of at most 48 bytes, filled with zeros
-unfoldable pub filled : Bytes → Bytes
-filled value = take 48 (value ++ zeros)
 
 abbrev pub with_waiting : Machine → List (ℕ × Bytes) → Machine
 with_waiting m ws = record { card = m.card; tape = m.tape; last = m.last; places = m.places; waiting = ws }

@@ -3,11 +3,11 @@
 use Rattle.std.specs.Prelude.{◌≡◌, ℕ, suc, ◌+◌, ◌<◌, cond, List, [], ◌∷◌, ◌++◌, map, length, Some, None, Ok, Err, Option, Result, ◌==◌}
 use Rattle.std.specs.List.{AllByRecursion}
 use Rattle.layout.specs.Numbers.{Bytes}
-use Rattle.layout.specs.Layouts.{value_in, zeros, face}
+use Rattle.layout.specs.Layouts.{value_in, zeros, filled, face}
 use Rattle.denial.specs.Denials.{Denial}
 use Rattle.seal.specs.Seals.{Rules, Lawful}
 use Rattle.machine.specs.Files.{entries}
-use Rattle.machine.specs.Machine.{Machine, Call, Write, Read, Beat, Save, Face, Answer, Written, Valued, Beaten, Saved, Shown, Denied, Outcome, opened_at, filled, step}
+use Rattle.machine.specs.Machine.{Machine, Call, Write, Read, Beat, Save, Face, Answer, Written, Valued, Beaten, Saved, Shown, Denied, Outcome, opened_at, step}
 use Rattle.machine.specs.Makings.{Making, Format, Resume, Store, Open, Shut, make, handed}
 
 -- ---- transcripts

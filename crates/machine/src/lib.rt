@@ -6,6 +6,7 @@ ghost use Rattle.machine.specs.Worked.{Worked, WorkedIsARun};
 ghost use Rattle.std.specs.Prelude.{◌≡◌};
 
 /// The law of runs holds, the worked run is as it is written down, and it is one of the law's runs.
+// A number, so that there is a body which a wrong version can turn.
 pub fn law_stands() -> u8
     ensures zero { result ≡ 0 }
     ensures law { Law }

@@ -1,12 +1,12 @@
 -- The landed blocks and their places, block by block.
-use Rattle.std.proofs.Common.{◌≡◌, ℕ, suc, ◌+◌, ◌*◌, ◌<◌, ◌≤◌, true, false, List, [], ◌∷◌, ◌++◌, length, get_or, take, drop, is_some, Some, None, Option, sym, refl, ap, ◌∙◌, arith}
-use Rattle.std.specs.List.{flat_map}
+use Rattle.std.proofs.Common.{◌≡◌, ℕ, suc, ◌+◌, ◌*◌, ◌<◌, ◌≤◌, List, [], ◌∷◌, ◌++◌, length, get_or, take, drop, is_some, Some, None, Option, sym, refl, ap, ◌∙◌, arith}
+use Rattle.std.specs.List.{flat_map, filter}
 use Rattle.std.proofs.lemmas.List.{append-nil, length-append, length_push, length-take-le, take-append-drop, take_more}
-use Rattle.std.proofs.lemmas.Bool.{both_ways, cond-true, le-leb}
+use Rattle.std.proofs.lemmas.Bool.{cond-true, le-leb}
 use Rattle.layout.specs.Numbers.{Bytes, little}
 use Rattle.layout.specs.declared.names.Place.{Place}
 use Rattle.machine.specs.Files.{landed_from, landed_places, file_of, file_length_of}
-use Rattle.tables.specs.Views.{place_of}
+use Rattle.tables.specs.Views.{placed}
 use Rattle.mapfile.specs.Encodes.{put_at, encode_of}
 use Rattle.mapfile.proofs.Puts.{put_more, put_front, length_joined}
 
@@ -25,11 +25,6 @@ blocks_append : (i j : ℕ) (xs ys : List (Option ℕ)) → j ≡ i + length xs 
 blocks_append i j [] ys e = let s : i ≡ j = omega arith in ap (λ (k : ℕ). landed_from k ys) s
 blocks_append i j (None ∷ xs) ys e = blocks_append (suc i) j xs ys (omega arith)
 blocks_append i j (Some p ∷ xs) ys e = ap (λ (z : List ℕ). i ∷ z) (blocks_append (suc i) j xs ys (omega arith))
-
-pub few : (places : List (Option ℕ)) → length (landed_places places) ≤ length places
-few [] = omega arith
-few (None ∷ places) = let h = few places in omega arith
-few (Some p ∷ places) = let h = few places in omega arith
 
 -- the first blocks have landed at no more places than all
 pub fewer : (b : ℕ) (places : List (Option ℕ)) → length (landed_places (take b places)) ≤ length (landed_places places)
@@ -75,15 +70,11 @@ pub room : (b p : ℕ) (places : List (Option ℕ)) → b < length places → ge
     → length (landed_places (take b places)) + 1 ≤ length (landed_places places)
 room b p places h e = let l = one_more b p places h e in let f = fewer (b + 1) places in omega arith
 
--- what a look-up tells of a block
-pub has_landed : (b : ℕ) (places : List (Option ℕ)) (o : Option Place) → place_of o ≡ get_or places b None → true ≡ is_some o
-    → (p : ℕ) × (get_or places b None ≡ Some p)
-has_landed b places (Some p) e t = (p.0, sym e)
-has_landed b places None e t = absurd (both_ways true t refl)
-
-pub has_not : (b : ℕ) (places : List (Option ℕ)) (o : Option Place) → place_of o ≡ get_or places b None → false ≡ is_some o → get_or places b None ≡ None
-has_not b places None e t = sym e
-has_not b places (Some p) e t = absurd (both_ways false refl t)
+-- the places that are given, counted
+pub landed_counted : (xs : List (Option Place)) → length (filter (λ o. is_some o) xs) ≡ length (landed_places (placed xs))
+landed_counted [] = refl
+landed_counted (None ∷ xs) = landed_counted xs
+landed_counted (Some p ∷ xs) = ap suc (landed_counted xs)
 
 -- a file is as long as it says
 pub length_file_of : (count last : ℕ) (places : List (Option ℕ)) → length (file_of count last places) ≡ file_length_of places
@@ -94,23 +85,22 @@ length_file_of count last places =
     let c = as_many 0 places in
     simp length-append (omega arith)
 
--- the header, the blocks and the places, written one behind another, are the file
-pub encoded : (count last : ℕ) (places : List (Option ℕ)) (old front half whole : Bytes) (n l : ℕ)
+-- the header, and the entries behind it, are the file
+pub encoded : (count last : ℕ) (places : List (Option ℕ)) (old front whole : Bytes) (n l : ℕ)
     → n ≡ length places → l ≡ length (landed_places places) → file_length_of places ≤ length old
     → front ≡ put_at old 0 (little 2 n ++ little 2 count ++ little 2 l ++ little 4 last)
-    → half ≡ put_at front 10 (flat_map (little 2) (landed_from 0 places))
-    → whole ≡ put_at half (10 + 2 * l) (flat_map (little 2) (landed_places places))
+    → whole ≡ put_at (put_at front 10 (flat_map (little 2) (landed_from 0 places))) (10 + 2 * l) (flat_map (little 2) (landed_places places))
     → ◌≡◌ {A = Option ℕ × Bytes} (Some (10 + 4 * l), whole) (encode_of count last places old)
 unfolding file_of
-encoded count last places old front half whole n l en el fits ef eh ew =
+encoded count last places old front whole n l en el fits ef ew =
     let head : Bytes = little 2 (length places) ++ little 2 count ++ little 2 (length (landed_places places)) ++ little 4 last in
     let blocks : Bytes = flat_map (little 2) (landed_from 0 places) in
     let rest : Bytes = flat_map (little 2) (landed_places places) in
     let one : front ≡ put_at old 0 head =
     ef ∙ (ap (λ (k : ℕ). put_at old 0 (little 2 k ++ little 2 count ++ little 2 l ++ little 4 last)) en
     ∙ ap (λ (k : ℕ). put_at old 0 (little 2 (length places) ++ little 2 count ++ little 2 k ++ little 4 last)) el) in
-    let two : half ≡ put_at old 0 (head ++ blocks) =
-    eh ∙ (ap (λ (u : Bytes). put_at u 10 blocks) one ∙ put_more old head blocks 0 10 (omega arith) (omega arith)) in
+    let two : put_at front 10 blocks ≡ put_at old 0 (head ++ blocks) =
+    ap (λ (u : Bytes). put_at u 10 blocks) one ∙ put_more old head blocks 0 10 (omega arith) (omega arith) in
     let lb = length_joined (landed_from 0 places) in
     let many = as_many 0 places in
     let next : 10 + 2 * l ≡ 0 + length (head ++ blocks) = simp length-append (omega arith) in

@@ -1,3 +1,4 @@
-pub mod Entries
 pub mod Landings
+pub mod Listed
 pub mod Puts
+pub mod Written

@@ -1,2 +1,3 @@
 pub mod Encodes
+pub mod Listed
 pub mod Reads

@@ -2,31 +2,22 @@
 ghost use Rattle.std.specs.Prelude.{◌≡◌, ◌+◌, ◌*◌, ◌≤◌, ◌++◌, length};
 ghost use Rattle.std.specs.List.{flat_map};
 ghost use Rattle.layout.specs.Numbers.{little};
-ghost use Rattle.machine.specs.Files.{landed_from, landed_places};
-ghost use Rattle.tables.specs.Views.{placed};
+ghost use Rattle.machine.specs.Files.{landed_from, landed_places, file_length_of};
 ghost use Rattle.mapfile.specs.Encodes.{put_at, encode_of};
 
-use layout::names::Block;
 use tables::positions::table::PositionMap;
 
 /// How many blocks have landed.
 pub fn landed(map: &PositionMap) -> u32
-    ensures { result ≡ length (landed_places (placed map.now.places.items)) }
+    ensures { result ≡ length (landed_places map.now) }
 {
-    let blocks = map.blocks();
-    let mut n = 0;
-    for b in 0..blocks {
-        if map.lookup(Block(b)).is_some() {
-            n += 1;
-        }
-    }
-    n
+    map.places().iter().filter(|place| place.is_some()).count() as u32
 }
 
 /// Writes the map file of a card of `count` places to the front of the buffer, and answers its
 /// length. `None` says that the buffer is too short, and that nothing was written.
 pub fn encode(map: &PositionMap, count: u32, last: u32, buffer: &mut [u8]) -> Option<usize>
-    ensures { (result, buffer.new) ≡ encode_of count last (placed map.now.places.items) buffer.old }
+    ensures { (result, buffer.new) ≡ encode_of count last map.now buffer.old }
 {
     let landed = landed(map);
     let length = 10 + 4 * landed as usize;
@@ -34,8 +25,7 @@ pub fn encode(map: &PositionMap, count: u32, last: u32, buffer: &mut [u8]) -> Op
         return None;
     }
     put_header(map.blocks(), count, landed, last, buffer);
-    put_blocks(map, buffer, 10);
-    put_places(map, buffer, 10 + 2 * landed as usize);
+    put_entries(map, buffer, 2 * landed as usize);
     Some(length)
 }
 
@@ -50,31 +40,18 @@ fn put_header(blocks: u32, count: u32, landed: u32, last: u32, buffer: &mut [u8]
     buffer[6..10].copy_from_slice(&last.to_le_bytes());
 }
 
-/// Writes the landed blocks, rising, from `from` on.
-fn put_blocks(map: &PositionMap, buffer: &mut [u8], from: usize)
-    requires { from + 2 * length (landed_places (placed map.now.places.items)) ≤ length buffer.old }
-    ensures { buffer.new ≡ put_at buffer.old from (flat_map (little 2) (landed_from 0 (placed map.now.places.items))) }
+/// Writes the landed blocks, rising, behind the header, and their places in the same order `apart` bytes further on.
+fn put_entries(map: &PositionMap, buffer: &mut [u8], apart: usize)
+    requires room { file_length_of map.now ≤ length buffer.old }
+    requires apart { apart ≡ 2 * length (landed_places map.now) }
+    ensures { buffer.new ≡ put_at (put_at buffer.old 10 (flat_map (little 2) (landed_from 0 map.now))) (10 + apart) (flat_map (little 2) (landed_places map.now)) }
 {
-    let blocks = map.blocks();
-    let mut at = from;
-    for b in 0..blocks {
-        if map.lookup(Block(b)).is_some() {
-            put_number(buffer, at, b);
-            at += 2;
-        }
-    }
-}
-
-/// Writes the places of the landed blocks, in the order of the blocks, from `from` on.
-fn put_places(map: &PositionMap, buffer: &mut [u8], from: usize)
-    requires { from + 2 * length (landed_places (placed map.now.places.items)) ≤ length buffer.old }
-    ensures { buffer.new ≡ put_at buffer.old from (flat_map (little 2) (landed_places (placed map.now.places.items))) }
-{
-    let blocks = map.blocks();
-    let mut at = from;
-    for b in 0..blocks {
-        if let Some(place) = map.lookup(Block(b)) {
-            put_number(buffer, at, place.0);
+    // A byte that steps is plainer here than a chain of filter, zip and step_by.
+    let mut at = 10;
+    for (block, place) in map.places().iter().enumerate() {
+        if let Some(place) = place {
+            put_number(buffer, at, block as u32);
+            put_number(buffer, at + apart, place.0);
             at += 2;
         }
     }

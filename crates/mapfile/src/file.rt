@@ -1,22 +1,41 @@
 //! A map file as it is read: the sizes, the last counter, and the landed blocks with their places.
-ghost use Rattle.std.specs.Prelude.{◌≡◌, ◌+◌, ◌^◌, ◌<◌, take, drop, MatchOption, slice_index};
-ghost use Rattle.std.specs.Option.{option_map};
+ghost use Rattle.std.specs.Prelude.{◌≡◌, ◌+◌, ◌<◌, ◌≤◌, take, drop, length};
+ghost use Rattle.std.specs.List.{AllByRecursion};
 ghost use Rattle.layout.specs.Numbers.{number};
-ghost use Rattle.machine.specs.Files.{file_blocks, file_count, file_landed, file_last};
-ghost use Rattle.mapfile.specs.Reads.{parse_of, entry_at, entry_told};
+ghost use Rattle.machine.specs.Files.{file_blocks, file_count, file_landed, file_last, entries};
+ghost use Rattle.mapfile.specs.Listed.{entries_left};
+ghost use Rattle.mapfile.specs.Reads.{parse_of};
 
-use layout::names::{Block, Place};
+use crate::entries::{Entries, number};
+use std::marker::Model;
 
-/// The bytes of a map file, as many as its header says: `parse` alone makes one.
-#[derive(Clone, Copy)]
+/// The bytes of a map file, as many as its header says.
+#[derive(Clone, Drop)]
 pub struct MapFile<'a> {
     bytes: &'a [u8],
+}
+
+impl<'a> Model for MapFile<'a> {
+    ghost use Rattle.std.specs.Prelude.{◌≡◌, ◌+◌, ◌*◌, ◌<◌, ◌≤◌, length};
+    ghost use Rattle.std.specs.List.{AllByRecursion};
+    ghost use Rattle.layout.specs.Numbers.{Bytes};
+    ghost use Rattle.machine.specs.Files.{file_landed};
+
+    ghost Value = { Bytes };
+
+    ghost view = { λ f. f.bytes.now };
+
+    ghost invariant = { λ f. record {
+      header : 10 ≤ length f.bytes.now;
+      in_bytes : AllByRecursion (λ b. b < 256) f.bytes.now;
+      as_long_as_it_says : length f.bytes.now ≡ 10 + 4 * file_landed f.bytes.now;
+    } };
 }
 
 impl<'a> MapFile<'a> {
     /// The map file that these bytes are, if their number is what their header says.
     pub fn parse(bytes: &'a [u8]) -> Option<MapFile<'a>>
-        ensures { option_map (λ file. file.bytes.now) result ≡ parse_of bytes.now }
+        ensures { result ≡ parse_of bytes.now }
     {
         if bytes.len() < 10 {
             return None;
@@ -30,62 +49,49 @@ impl<'a> MapFile<'a> {
 
     /// How many blocks the store has.
     pub fn blocks(&self) -> u32
-        ensures { result ≡ file_blocks self.now.bytes.now }
+        ensures { result ≡ file_blocks self.now }
     {
         number_at(self.bytes, 0)
     }
 
     /// How many places the card has.
     pub fn count(&self) -> u32
-        ensures { result ≡ file_count self.now.bytes.now }
+        ensures { result ≡ file_count self.now }
     {
         number_at(self.bytes, 2)
     }
 
     /// How many blocks have landed: the number of entries.
     pub fn landed(&self) -> u32
-        ensures { result ≡ file_landed self.now.bytes.now }
+        ensures { result ≡ file_landed self.now }
     {
         number_at(self.bytes, 4)
     }
 
     /// The last counter that was sealed.
     pub fn last(&self) -> u32
-        ensures { result ≡ file_last self.now.bytes.now }
+        ensures { result ≡ file_last self.now }
     {
         let b = self.bytes;
-        u32::from_le_bytes([byte_at(b, 6), byte_at(b, 7), byte_at(b, 8), byte_at(b, 9)])
+        u32::from_le_bytes([b[6], b[7], b[8], b[9]])
     }
 
-    /// The entry `i`, a landed block and its place, if the file has so many.
-    pub fn entry(&self, i: u32) -> Option<(Block, Place)>
-        ensures the_entry { entry_told result ≡ entry_at self.now.bytes.now i }
-        ensures in_two_bytes { MatchOption result Unit (λ e. (e.0.0 < 65536) × (e.1.0 < 65536)) }
+    /// The entries in file order, each a landed block and its place.
+    pub fn entries(&self) -> Entries<'a>
+        ensures in_file_order { entries_left result ≡ entries self.now }
+        ensures in_two_bytes { AllByRecursion (λ e. (e.0 < 65536) × (e.1 < 65536)) (entries self.now) }
     {
-        let landed = self.landed();
-        if i >= landed {
-            return None;
-        }
-        let at = 10 + 2 * i as usize;
-        let block = Block(number_at(self.bytes, at));
+        let (numbers, _) = self.bytes[10..].as_chunks::<2>();
         // The places stand behind all the blocks.
-        let place = Place(number_at(self.bytes, at + 2 * landed as usize));
-        Some((block, place))
+        let (blocks, places) = numbers.split_at(self.landed() as usize);
+        Entries::new(blocks, places)
     }
 }
 
 /// The number that the two bytes at `at` spell.
 fn number_at(bytes: &[u8], at: usize) -> u32
-    requires { at + 1 < 2 ^ 64 }
-    ensures spelled { result ≡ number (take 2 (drop at bytes.now)) }
-    ensures in_two_bytes { result < 65536 }
+    requires { at + 2 ≤ length bytes.now }
+    ensures { result ≡ number (take 2 (drop at bytes.now)) }
 {
-    u32::from(u16::from_le_bytes([byte_at(bytes, at), byte_at(bytes, at + 1)]))
-}
-
-/// The byte at `i`, or 0 past the end, where a 0 leaves the number that the bytes spell as it is.
-fn byte_at(bytes: &[u8], i: usize) -> u8
-    ensures { result ≡ slice_index bytes.now i }
-{
-    if i < bytes.len() { bytes[i] } else { 0 }
+    number([bytes[at], bytes[at + 1]])
 }

@@ -2,4 +2,5 @@
 #![tactic(auto)]
 
 pub mod encode;
+pub mod entries;
 pub mod file;

@@ -1,6 +1,6 @@
 -- The loop of `seal_dummies`.
 use Rattle.std.proofs.Common.{◌≡◌, ℕ, suc, ◌+◌, ◌<◌, ◌≤◌, Bool, true, false, cond, ◌&&◌, eqb, List, [], ◌∷◌, ◌++◌, length, get_or, take, drop, set, Ok, Err, Result, sym, refl, ap, ◌∙◌, ⊎_elim, arith}
-use Rattle.std.proofs.lemmas.List.{append-nil, append_assoc, length-append, length-drop, length-take-le, drop_more, drop_all, set_at, take_all, take_more}
+use Rattle.std.proofs.lemmas.List.{append_assoc, length-append, length-drop, length-take-le, drop_more, set_at, take_more}
 use Rattle.layout.specs.Numbers.{Bytes}
 use Rattle.layout.specs.Layouts.{body_of, no_block, zeros, dummy_body}
 use Rattle.denial.specs.Denials.{Denial, wrong_size}
@@ -42,10 +42,6 @@ half_more rules rs i h =
     ∙ (set_at (dummies rules 0 (take i rs)) (get_or rs i []) (drop (i + 1) rs) (rules.sealed i (i + 1) dummy_body) i (length_dummies rules 0 (take i rs) ∙ n)
     ∙ (sym (append_assoc (dummies rules 0 (take i rs)) (rules.sealed i (i + 1) dummy_body ∷ []) (drop (i + 1) rs))
     ∙ ap (λ z. z ++ drop (i + 1) rs) (sym (ap (dummies rules 0) (take_more rs i [] h) ∙ (dummies_push rules 0 (take i rs) (get_or rs i []) ∙ ap (λ k. dummies rules 0 (take i rs) ++ rules.sealed k (k + 1) dummy_body ∷ []) l)))))
-
-pub half_all : (rules : Rules) (rs : List Bytes) (i : ℕ) → length rs ≤ i → half_done rules rs i ≡ dummies rules 0 rs
-half_all rules rs i h =
-    ap (λ z. dummies rules 0 z ++ drop i rs) (take_all i rs h) ∙ (ap (λ z. dummies rules 0 rs ++ z) (drop_all i rs h) ∙ append-nil (dummies rules 0 rs))
 
 -- a put of a whole record on the card is never denied
 pub put_granted_here : (rs after : List Bytes) (p : ℕ) (bytes : Bytes) (d : Denial) → (Err d, after) ≡ put_of rs p bytes → p < length rs → length bytes ≡ 64 → ⊥

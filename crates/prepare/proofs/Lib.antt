@@ -1,4 +1,3 @@
-pub mod Counters
 pub mod Halves
 pub mod Opens
 pub mod Resumed

@@ -1,39 +1,26 @@
 -- What resume is where one of its checks fails, and where the sizes fit.
-use Rattle.std.proofs.Common.{◌≡◌, ℕ, ◌<◌, Bool, true, false, cond, ◌&&◌, eqb, List, [], ◌∷◌, length, Some, None, Ok, Err, Option, Result, sym, refl, ap, ◌∙◌, subst, arith}
-use Rattle.std.proofs.lemmas.Bool.{and_from, cond-true, eq-eqb}
+use Rattle.std.proofs.Common.{◌≡◌, ℕ, Bool, true, false, cond, eqb, List, [], ◌∷◌, length, Some, None, Ok, Err, Option, Result, sym, refl, ap, ◌∙◌, subst, arith}
+use Rattle.std.proofs.lemmas.Bool.{and_from, cond-true, cond-false, eq-eqb}
 use Rattle.layout.specs.Numbers.{Bytes}
 use Rattle.layout.specs.Layouts.{block_in}
 use Rattle.denial.specs.Denials.{Denial, block_count, place_count, file_entry, counter_above, entry_other}
 use Rattle.seal.specs.Seals.{Rules}
 use Rattle.machine.specs.Files.{file_blocks, file_count, file_last, entries}
 use Rattle.machine.specs.Machine.{Machine, Reason, DenialOf, opened_at}
-use Rattle.machine.specs.Makings.{Store, Shut, shut, above, blocks_fit, places_fit, entries_fit, entry_opened, first_of, entries_open, file_long, resumed, resume_opened, resume_counted, resume}
-use Rattle.answers.specs.Told.{store_denial, store_reason}
+use Rattle.machine.specs.Makings.{Shut, shut, above, blocks_fit, places_fit, entries_fit, entry_opened, first_of, entries_open, file_long, resumed, resume_opened, resume_counted, resume}
 use Rattle.answers.specs.declared.fault.StoreFault.{StoreFault}
-use Rattle.answers.specs.declared.fault.StoreFault.TheVariants.{FileLength, BlockCount, PlaceCount, FileEntry, CounterAbove, Unopened, OtherBlock, BlockBeyond, ValueLong, BlocksWait, BufferLength, ListFull, CounterSpent}
-use Rattle.prepare.specs.Checks.{size_check, counter_check}
+use Rattle.answers.specs.declared.fault.StoreFault.TheVariants.{FileEntry}
+use Rattle.prepare.specs.Checks.{size_check, entry_check, counter_check}
 use Rattle.prepare.specs.Sizes.{SizesFit}
 
-sizes_two_or_three : (s t : Bool) (d : Denial) → ◌≡◌ {A = Result (Unit {0}) Denial} (Err d) (cond s (cond t (Ok tt) (Err place_count)) (Err block_count)) → d.number < 4
-sizes_two_or_three true true d e = let z : ◌≡◌ {A = ℕ} 0 1 = cc in absurd (omega arith)
-sizes_two_or_three true false d e = let k : d ≡ place_count = cc in let n = ap (λ (x : Denial). x.number) k in omega arith
-sizes_two_or_three false t d e = let k : d ≡ block_count = cc in let n = ap (λ (x : Denial). x.number) k in omega arith
+-- what the check of the entries tells
+pub misfit_told : (t : Bool) (f : StoreFault) → ◌≡◌ {A = Result (Unit {0}) StoreFault} (Err f) (entry_check t) → (t ≡ false) × (f ≡ FileEntry)
+misfit_told true f e = let z : ◌≡◌ {A = ℕ} 0 1 = cc in absurd (omega arith)
+misfit_told false f e = (refl, cc)
 
--- only the denial of an entry that does not open holds another
-pub plain_reason : (f : StoreFault) (n count : ℕ) → ◌≡◌ {A = Result (Unit {0}) Denial} (Err (store_denial f)) (size_check n count) → store_reason f ≡ DenialOf (store_denial f)
-plain_reason FileLength n count e = refl
-plain_reason BlockCount n count e = refl
-plain_reason PlaceCount n count e = refl
-plain_reason FileEntry n count e = refl
-plain_reason (CounterAbove p) n count e = refl
-plain_reason (Unopened p x) n count e = let l = sizes_two_or_three (blocks_fit n) (places_fit n count) (store_denial (Unopened p x)) e in absurd (omega arith)
-plain_reason (OtherBlock p) n count e = refl
-plain_reason BlockBeyond n count e = refl
-plain_reason ValueLong n count e = refl
-plain_reason BlocksWait n count e = refl
-plain_reason BufferLength n count e = refl
-plain_reason ListFull n count e = refl
-plain_reason CounterSpent n count e = refl
+pub fit_told : (t : Bool) → ◌≡◌ {A = Result (Unit {0}) StoreFault} (Ok tt) (entry_check t) → true ≡ t
+fit_told true e = refl
+fit_told false e = let z : ◌≡◌ {A = ℕ} 0 1 = cc in absurd (omega arith)
 
 -- 6 and 7 are later than 3
 entry_later : (m : Machine) (b p : ℕ) (o : Result Bytes Denial) → SizesFit (resume_opened m (entry_opened b p o))
@@ -52,16 +39,6 @@ entries_later rules card m (e ∷ es) =
     (entry_later m e.0 e.1 (opened_at rules card e.1)) (entries_later rules card m es)
 
 module _ (rules : Rules) (card : List Bytes) (tape : List ℕ) (file : Bytes) (long : file_long file ≡ true) where
-  misfit : (s t q : Bool) (X : Store) (d : Denial) → ◌≡◌ {A = Result (Unit {0}) Denial} (Err d) (cond s (cond t (Ok tt) (Err place_count)) (Err block_count))
-      → shut d card tape ≡ cond s (cond (t && q) X (shut place_count card tape)) (shut block_count card tape)
-  misfit true true q X d e = let z : ◌≡◌ {A = ℕ} 0 1 = cc in absurd (omega arith)
-  misfit true false q X d e = let k : d ≡ place_count = cc in ap (λ (x : Denial). shut x card tape) k
-  misfit false t q X d e = let k : d ≡ block_count = cc in ap (λ (x : Denial). shut x card tape) k
-
-  -- 2 or 3
-  pub sizes_shut : (d : Denial) → ◌≡◌ {A = Result (Unit {0}) Denial} (Err d) (size_check (file_blocks file) (length card)) → shut d card tape ≡ resume rules card tape file
-  sizes_shut d e = misfit (blocks_fit (file_blocks file)) (places_fit (file_blocks file) (length card)) _ _ d e ∙ sym (cond-true (file_long file) _ _ long)
-
   fits : (s t : Bool) → ◌≡◌ {A = Result (Unit {0}) Denial} (Ok tt) (cond s (cond t (Ok tt) (Err place_count)) (Err block_count)) → (s ≡ true) × (t ≡ true)
   fits true true e = (refl, refl)
   fits true false e = let z : ◌≡◌ {A = ℕ} 0 1 = cc in absurd (omega arith)
@@ -79,6 +56,11 @@ module _ (rules : Rules) (card : List Bytes) (tape : List ℕ) (file : Bytes) (l
   counted : ◌≡◌ {A = Result (Unit {0}) Denial} (Ok tt) (size_check (file_blocks file) (length card)) → length card ≡ file_count file
       → true ≡ entries_fit (file_blocks file) (length card) 0 [] (entries file) → resume rules card tape file ≡ resume_counted rules card tape file (above (file_last file) 0 card)
   counted e q f = sized e q ∙ cond-true _ _ _ (sym f)
+
+  -- 4
+  pub entries_shut : ◌≡◌ {A = Result (Unit {0}) Denial} (Ok tt) (size_check (file_blocks file) (length card)) → length card ≡ file_count file
+      → entries_fit (file_blocks file) (length card) 0 [] (entries file) ≡ false → shut file_entry card tape ≡ resume rules card tape file
+  entries_shut e q h = sym (sized e q ∙ cond-false _ _ _ h)
 
   counter_shut : (o : Option ℕ) (r : Reason) → ◌≡◌ {A = Result (Unit {0}) Reason} (Err r) (counter_check o) → Shut r card tape ≡ resume_counted rules card tape file o
   counter_shut (Some p) r e = let k : r ≡ DenialOf (counter_above p) = cc in ap (λ (x : Reason). Shut x card tape) k

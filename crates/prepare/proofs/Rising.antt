@@ -1,5 +1,6 @@
 -- The entries of a map file, settled one by one on an empty map.
-use Rattle.std.proofs.Common.{◌≡◌, ℕ, zero, suc, ◌+◌, ◌<◌, ◌≤◌, Bool, true, false, cond, not, ◌&&◌, ◌||◌, eqb, ltb, leb, ◌≢◌, ◌⊎◌, List, [], ◌∷◌, length, get_or, drop, set, replicate, is_err, Some, None, Ok, Err, Option, Result, sym, refl, ap, ◌∙◌, subst, inl, inr, ⊎_elim, add-one, arith}
+use Rattle.std.proofs.Common.{◌≡◌, ℕ, zero, suc, ◌+◌, ◌<◌, ◌≤◌, Bool, true, false, cond, not, ◌&&◌, ◌||◌, eqb, ltb, leb, ◌≢◌, ◌⊎◌, List, [], ◌∷◌, length, get_or, set, replicate, is_err, Some, None, Ok, Err, Option, Result, sym, refl, ap, ◌∙◌, subst, inl, inr, ⊎_elim, add-one, arith}
+use Rattle.std.specs.List.{AllByRecursion as All}
 use Rattle.std.proofs.lemmas.List.{length-set, get_or-set_other, length-replicate}
 use Rattle.std.proofs.lemmas.Bool.{and_left, and_right, and_from, le-leb, lt-leb, lt-ltb, le-ltb, ltb-true, ltb-false, not_from_true, not_from_false, and_parts, both_ways}
 use Rattle.machine.specs.Machine.{occupant_from, occupant}
@@ -112,19 +113,23 @@ misfit_head n count from seen e es (inr (inr (inr d))) =
 
 -- ---- the loop over the entries
 
--- after i entries: the map is ready, what is left decides as the whole does, and settling goes on from here
-pub record Going (n count : ℕ) (es : List (ℕ × ℕ)) (i from : ℕ) (places : List (Option ℕ)) : Type 0 where
+-- with the rest of the entries to come: the map is ready, the rest decides as the whole does, and settling goes on from here
+pub record Going (n count : ℕ) (es rest : List (ℕ × ℕ)) (from : ℕ) (places : List (Option ℕ)) : Type 0 where
   pub seen : List ℕ
   pub ready : Ready n from seen places
-  pub decides : entries_fit n count from seen (drop i es) ≡ entries_fit n count 0 [] es
-  pub settles : settled places (drop i es) ≡ settled (replicate n None) es
+  pub decides : entries_fit n count from seen rest ≡ entries_fit n count 0 [] es
+  pub settles : settled places rest ≡ settled (replicate n None) es
+  pub short : All (λ e. (e.0 < 65536) × (e.1 < 65536)) rest
 
-pub going_start : (n count : ℕ) (es : List (ℕ × ℕ)) (places : List (Option ℕ)) → places ≡ replicate n None → Going n count es 0 0 places
-going_start n count es places e = subst (Going n count es 0 0) (sym e) (record { seen = []; ready = ready_empty n; decides = refl; settles = refl })
+pub going_start : (n count : ℕ) (es rest : List (ℕ × ℕ)) (places : List (Option ℕ)) → rest ≡ es → places ≡ replicate n None → All (λ e. (e.0 < 65536) × (e.1 < 65536)) es
+    → Going n count es rest 0 places
+going_start n count es rest places f e h =
+    subst (λ z. Going n count es z 0 places) (sym f)
+    (subst (Going n count es es 0) (sym e) (record { seen = []; ready = ready_empty n; decides = refl; settles = refl; short = h }))
 
-pub going_on : (n count : ℕ) (es : List (ℕ × ℕ)) (i from b p : ℕ) (places after : List (Option ℕ)) → drop i es ≡ (b, p) ∷ drop (i + 1) es
-    → Going n count es i from places → from ≤ b → p < count → (Ok tt, after) ≡ settle_of places b p → Going n count es (i + 1) (b + 1) after
-going_on n count es i from b p places after d g a c e =
+pub going_on : (n count : ℕ) (es rest next : List (ℕ × ℕ)) (from b p : ℕ) (places after : List (Option ℕ)) → rest ≡ (b, p) ∷ next
+    → Going n count es rest from places → from ≤ b → p < count → (Ok tt, after) ≡ settle_of places b p → Going n count es next (b + 1) after
+going_on n count es rest next from b p places after d g a c e =
     let s = settling places after b p e in
     let r = g.ready in
     let size = r.size in
@@ -137,25 +142,21 @@ going_on n count es i from b p places after d g a c e =
         taken = λ q. ap (λ (t : Bool). eqb p q || t) (r.taken q) ∙ sym (held_set places b p q under none);
         vacant = λ k h. let ne : k ≢ b = omega arith in get_or-set_other places b k (Some p) None ne ∙ r.vacant k (omega arith);
       });
-      decides = sym (ap (entries_fit n count from g.seen) d ∙ fit_head n count from g.seen (b, p) (drop (i + 1) es) a (omega arith) c (r.taken p ∙ s.free_place)) ∙ g.decides;
-      settles = ap (λ (z : List (Option ℕ)). settled z (drop (i + 1) es)) s.placed_there ∙ (sym (ap (settled places) d) ∙ g.settles);
+      decides = sym (ap (entries_fit n count from g.seen) d ∙ fit_head n count from g.seen (b, p) next a (omega arith) c (r.taken p ∙ s.free_place)) ∙ g.decides;
+      settles = ap (λ (z : List (Option ℕ)). settled z next) s.placed_there ∙ (sym (ap (settled places) d) ∙ g.settles);
+      short = (subst (All (λ e. (e.0 < 65536) × (e.1 < 65536))) d g.short).1;
     }
 
-pub going_wrong : (n count : ℕ) (es : List (ℕ × ℕ)) (i from b p : ℕ) (places : List (Option ℕ)) → drop i es ≡ (b, p) ∷ drop (i + 1) es
-    → (g : Going n count es i from places) → Misfit n count from g.seen (b, p) → false ≡ entries_fit n count 0 [] es
-going_wrong n count es i from b p places d g m =
-    sym (sym g.decides ∙ (ap (entries_fit n count from g.seen) d ∙ misfit_head n count from g.seen (b, p) (drop (i + 1) es) m))
+pub going_wrong : (n count : ℕ) (es rest next : List (ℕ × ℕ)) (from b p : ℕ) (places : List (Option ℕ)) → rest ≡ (b, p) ∷ next
+    → (g : Going n count es rest from places) → Misfit n count from g.seen (b, p) → entries_fit n count 0 [] es ≡ false
+going_wrong n count es rest next from b p places d g m =
+    sym g.decides ∙ (ap (entries_fit n count from g.seen) d ∙ misfit_head n count from g.seen (b, p) next m)
 
-pub unsettled_misfit : (n count : ℕ) (es : List (ℕ × ℕ)) (i from b p : ℕ) (places after : List (Option ℕ)) (u : Unsettled) (g : Going n count es i from places)
+pub unsettled_misfit : (n count : ℕ) (es rest : List (ℕ × ℕ)) (from b p : ℕ) (places after : List (Option ℕ)) (u : Unsettled) (g : Going n count es rest from places)
     → (Err u, after) ≡ settle_of places b p → Misfit n count from g.seen (b, p)
-unsettled_misfit n count es i from b p places after u g e =
+unsettled_misfit n count es rest from b p places after u g e =
     let size = g.ready.size in
     ⊎_elim (λ h. inr (inr (inl (omega arith)))) (λ h. inr (inr (inr (g.ready.taken p ∙ h)))) (unsettling places after b p u e)
-
-pub going_all : (n count : ℕ) (es : List (ℕ × ℕ)) (i from : ℕ) (places : List (Option ℕ)) → drop i es ≡ [] → Going n count es i from places
-    → (true ≡ entries_fit n count 0 [] es) × (places ≡ settled (replicate n None) es)
-going_all n count es i from places d g =
-    (sym (ap (entries_fit n count from g.seen) d) ∙ g.decides, sym (ap (settled places) d) ∙ g.settles)
 
 -- ---- the answers of the code
 
@@ -172,13 +173,9 @@ pub with_answer : (t u : Result (Unit {0}) Unsettled) (after : List (Option ℕ)
 with_answer t u after o e k = ap (λ (x : Result (Unit {0}) Unsettled). (let y : Result (Unit {0}) Unsettled × List (Option ℕ) = (x, after) in y)) (sym e) ∙ k
 
 -- the places of entries that fit are on the card
-pub fit_places : (n count from : ℕ) (seen : List ℕ) (es : List (ℕ × ℕ)) (i : ℕ) → entries_fit n count from seen es ≡ true → i < length es → (get_or es i (0, 0)).1 < count
-fit_places n count from seen [] i e h = absurd (omega arith)
-fit_places n count from seen (x ∷ es) zero e h =
+pub fit_places : (n count from : ℕ) (seen : List ℕ) (es : List (ℕ × ℕ)) → entries_fit n count from seen es ≡ true → All (λ e. e.1 < count) es
+fit_places n count from seen [] e = tt
+fit_places n count from seen (x ∷ es) e =
     let a = (and_parts (leb from x.0 && ltb x.0 n) ((ltb x.1 count && not (among seen x.1)) && entries_fit n count (suc x.0) (x.1 ∷ seen) es) e).1 in
-    let b = (and_parts (ltb x.1 count && not (among seen x.1)) (entries_fit n count (suc x.0) (x.1 ∷ seen) es) a).0 in
-    ltb-true _ _ (and_parts (ltb x.1 count) (not (among seen x.1)) b).0
-fit_places n count from seen (x ∷ es) (suc i) e h =
-    let a = (and_parts (leb from x.0 && ltb x.0 n) ((ltb x.1 count && not (among seen x.1)) && entries_fit n count (suc x.0) (x.1 ∷ seen) es) e).1 in
-    let b = (and_parts (ltb x.1 count && not (among seen x.1)) (entries_fit n count (suc x.0) (x.1 ∷ seen) es) a).1 in
-    fit_places n count (suc x.0) (x.1 ∷ seen) es i b (omega arith)
+    let b = and_parts (ltb x.1 count && not (among seen x.1)) (entries_fit n count (suc x.0) (x.1 ∷ seen) es) a in
+    (ltb-true _ _ (and_parts (ltb x.1 count) (not (among seen x.1)) b.0).0, fit_places n count (suc x.0) (x.1 ∷ seen) es b.1)

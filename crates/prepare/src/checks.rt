@@ -28,6 +28,7 @@ pub(crate) fn check_sizes(blocks: u32, count: u32) -> Result<(), StoreFault>
 pub(crate) fn check_counters<C: Card>(card: &C, last: u32) -> Result<(), Denial>
     ensures { by_reason result ≡ counter_check (above last 0 (C.Card.records card.now)) }
 {
+    // A card tells how many places it has, and lends no places to go over.
     for i in 0..card.count() {
         if clear_at(card, Place(i))? > last {
             return Err(Denial::ByStore(StoreFault::CounterAbove(Place(i))));

@@ -15,6 +15,7 @@ pub(crate) fn seal_dummies<C: Card, S: Seal>(card: &mut C, seal: &S) -> Result<(
     let body = Body::dummy().to_bytes();
     let mut bytes = [0; 64];
     let count = card.count();
+    // The counters rise with the places, so one number serves both.
     for i in 0..count {
         seal.seal(Place(i), i + 1, &body, &mut bytes)?;
         card.put(Place(i), &bytes)?;

@@ -1,11 +1,10 @@
 //! The entries of a map file, as resume takes them up.
-ghost use Rattle.std.specs.Prelude.{◌≡◌, ℕ, ◌<◌, true, [], length, replicate, None};
-ghost use Rattle.tables.specs.Views.{placed};
+ghost use Rattle.std.specs.Prelude.{◌≡◌, ℕ, ◌<◌, true, [], length, replicate, None, IfOk};
 ghost use Rattle.machine.specs.Files.{file_blocks, entries};
 ghost use Rattle.machine.specs.Machine.{opened_at};
 ghost use Rattle.machine.specs.Makings.{entries_fit, settled, entry_opened, entries_open};
 ghost use Rattle.engine.specs.Steps.{by_reason};
-ghost use Rattle.prepare.specs.Checks.{opening_check};
+ghost use Rattle.prepare.specs.Checks.{entry_check, opening_check};
 
 use answers::denials::Denial;
 use answers::fault::StoreFault;
@@ -17,26 +16,28 @@ use mapfile::file::MapFile;
 use seal::seal::Seal;
 use tables::positions::table::PositionMap;
 
-/// 4: puts the listed blocks at the listed places of an empty map, and says whether all of them fit.
-pub(crate) fn settle_entries(map: &mut PositionMap, file: &MapFile<'_>, count: u32) -> bool
-    requires { placed map.old.places.items ≡ replicate (file_blocks file.now.bytes.now) None }
-    ensures fit { result ≡ entries_fit (file_blocks file.now.bytes.now) count 0 [] (entries file.now.bytes.now) }
-    ensures places { result ≡ true → placed map.new.places.items ≡ settled (replicate (file_blocks file.now.bytes.now) None) (entries file.now.bytes.now) }
+/// 4: puts the listed blocks, which rise, at the listed places of an empty map.
+pub(crate) fn settle_entries(
+    map: &mut PositionMap,
+    file: &MapFile<'_>,
+    count: u32,
+) -> Result<(), StoreFault>
+    requires { map.old ≡ replicate (file_blocks file.now) None }
+    ensures fit { result ≡ entry_check (entries_fit (file_blocks file.now) count 0 [] (entries file.now)) }
+    ensures places { IfOk result (λ _. map.new ≡ settled (replicate (file_blocks file.now) None) (entries file.now)) }
 {
     let mut from = 0;
-    for i in 0..file.landed() {
-        let Some((block, place)) = file.entry(i) else {
-            return false;
-        };
+    for (block, place) in file.entries() {
         if block.0 < from || place.0 >= count {
-            return false;
+            return Err(StoreFault::FileEntry);
         }
+        // Not `map_err` and `?`: the goal at its closure stays open.
         if map.settle(block, place).is_err() {
-            return false;
+            return Err(StoreFault::FileEntry);
         }
         from = block.0 + 1;
     }
-    true
+    Ok(())
 }
 
 /// 6, then 7: whether a listed place opens, and to the listed block.
@@ -51,7 +52,7 @@ fn check_entry<C: Card, S: Seal>(
 {
     match open_at(card, seal, place) {
         Ok(body) => {
-            if Body::from_bytes(&body).block.0 != block.0 {
+            if Body::from_bytes(&body).block != block {
                 return Err(Denial::ByStore(StoreFault::OtherBlock(place)));
             }
             Ok(())
@@ -67,13 +68,10 @@ pub(crate) fn check_entries<C: Card, S: Seal>(
     seal: &S,
     file: &MapFile<'_>,
 ) -> Result<(), Denial>
-    requires { entries_fit (file_blocks file.now.bytes.now) (length (C.Card.records card.now)) 0 [] (entries file.now.bytes.now) ≡ true }
-    ensures { by_reason result ≡ opening_check (entries_open (S.Seal.rules seal.now) (C.Card.records card.now) (entries file.now.bytes.now)) }
+    requires { entries_fit (file_blocks file.now) (length (C.Card.records card.now)) 0 [] (entries file.now) ≡ true }
+    ensures { by_reason result ≡ opening_check (entries_open (S.Seal.rules seal.now) (C.Card.records card.now) (entries file.now)) }
 {
-    for i in 0..file.landed() {
-        let Some((block, place)) = file.entry(i) else {
-            return Ok(());
-        };
+    for (block, place) in file.entries() {
         check_entry(card, seal, block, place)?;
     }
     Ok(())

@@ -4,5 +4,4 @@
 mod checks;
 mod dummies;
 mod entries;
-pub mod memory;
 pub mod prepare;

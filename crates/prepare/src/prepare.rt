@@ -4,16 +4,17 @@ ghost use Rattle.prepare.specs.Prepared.{Prepared};
 use crate::checks::{check_counters, check_sizes};
 use crate::dummies::seal_dummies;
 use crate::entries::{check_entries, settle_entries};
-use crate::memory::Memory;
 use answers::denials::Denial;
 use answers::fault::StoreFault;
 use card::card::Card;
+use engine::state::Memory;
 use mapfile::file::MapFile;
 use seal::seal::Seal;
 use std::alloc::Global;
 use tables::positions::table::PositionMap;
 use tables::waiting::list::WaitingList;
 
+// Card and seal without the tape, from which a making may not draw.
 /// Checks the sizes, then takes the memory, and touches the card only then.
 pub fn prepare_format<C: Card, S: Seal>(
     heap: Global,
@@ -54,9 +55,7 @@ pub fn prepare_resume<C: Card, S: Seal>(
     }
     let mut map = PositionMap::new(heap, file.blocks())?;
     let waiting = WaitingList::new(heap)?;
-    if !settle_entries(&mut map, &file, count) {
-        return Err(Denial::ByStore(StoreFault::FileEntry));
-    }
+    settle_entries(&mut map, &file, count)?;
     check_counters(card, file.last())?;
     check_entries(card, seal, &file)?;
     Ok(Memory {

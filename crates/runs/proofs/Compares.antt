@@ -1,5 +1,5 @@
 -- Two transcripts that begin alike, compared by the law.
-use Rattle.std.proofs.Common.{◌≡◌, ℕ, Bool, false, eqb, ◌↔◌, List, [], ◌∷◌, map, length, get_or, drop, Some, None, vec_items, Decides, Option, sym, refl, ap, ◌∙◌, subst, ap₂, inl, inr, true≢false, arith}
+use Rattle.std.proofs.Common.{◌≡◌, ℕ, Bool, eqb, ◌↔◌, List, [], ◌∷◌, map, length, get_or, drop, Some, None, Decides, Option, sym, refl, ap, ◌∙◌, subst, ap₂, inl, inr, arith}
 use mathlib.Core.List.{is_set}
 use mathlib.Core.Logic.{∥∥₁_elim}
 use native.Mathlib.Nat.{ℕ_set}
@@ -12,11 +12,9 @@ use Rattle.machine.specs.Runs.{faces, beat_places}
 use Rattle.machine.proofs.LawOfRuns.{law_of_runs}
 use Rattle.runs.specs.Shown.{Beginning, Told, begun_told}
 use Rattle.runs.specs.Witness.{ShownByAStore}
-use Rattle.runs.specs.Carried.{notes_of}
 use Rattle.runs.specs.Compared.{OneBeginning, BegunAlike, faces_of, places_of, Compared}
 use Rattle.runs.specs.declared.compare.Verdict.{Verdict}
 use Rattle.runs.specs.declared.compare.Verdict.TheVariants.{BegunApart, SameFaces, OtherFaces}
-use Rattle.runs.specs.declared.transcript.Begun.{Begun}
 use Rattle.runs.specs.declared.transcript.Transcript.{Transcript}
 
 -- ---- what the law says of two transcripts
@@ -28,7 +26,7 @@ no_beginning : (o : Option Beginning) → OneBeginning o None → ⊥
 no_beginning (Some b) h = h
 no_beginning None h = h
 
-shown_alike : (t u : Transcript) → ShownByAStore (notes_of t) → ShownByAStore (notes_of u) → BegunAlike t u
+shown_alike : (t u : Transcript) → ShownByAStore t.notes → ShownByAStore u.notes → BegunAlike t u
     → (faces_of t ≡ faces_of u) ↔ (places_of t ≡ places_of u)
 shown_alike t u (inl x) (inl y) alike =
     let begun = at_both _ _ _ _ (ap (λ (d : Told). d.begun) x.told_is) (ap (λ (d : Told). d.begun) y.told_is) alike in
@@ -39,12 +37,12 @@ shown_alike t u (inl x) (inl y) alike =
     let pu : places_of u ≡ beat_places y.as_a_run = ap (λ (d : Told). d.places) y.told_is in
     (λ e. pt ∙ (law.0 (sym ft ∙ (e ∙ fu)) ∙ sym pu), λ e. ft ∙ (law.1 (sym pt ∙ (e ∙ pu)) ∙ sym fu))
 shown_alike t u (inl x) (inr z) alike =
-    absurd (no_beginning (begun_told t.begun) (at_both _ _ _ _ refl (ap (λ (d : Told). d.begun) z.told_is) alike))
+    absurd (no_beginning (begun_told t.notes.begun) (at_both _ _ _ _ refl (ap (λ (d : Told). d.begun) z.told_is) alike))
 shown_alike t u (inr z) y alike =
-    absurd (at_both (begun_told t.begun) (begun_told u.begun) None (begun_told u.begun) (ap (λ (d : Told). d.begun) z.told_is) refl alike)
+    absurd (at_both (begun_told t.notes.begun) (begun_told u.notes.begun) None (begun_told u.notes.begun) (ap (λ (d : Told). d.begun) z.told_is) refl alike)
 
 -- whichever runs show them
-by_the_law : (t u : Transcript) → ∥ ShownByAStore (notes_of t) ∥₁ → ∥ ShownByAStore (notes_of u) ∥₁ → BegunAlike t u
+by_the_law : (t u : Transcript) → ∥ ShownByAStore t.notes ∥₁ → ∥ ShownByAStore u.notes ∥₁ → BegunAlike t u
     → (faces_of t ≡ faces_of u) ↔ (places_of t ≡ places_of u)
 by_the_law t u shown_t shown_u alike = (
   λ e. ∥∥₁_elim shown_t (is_set ℕ_set (places_of t) (places_of u)) (λ x. ∥∥₁_elim shown_u (is_set ℕ_set (places_of t) (places_of u)) (λ y. (shown_alike t u x y alike).0 e)),
@@ -58,7 +56,7 @@ index BegunApart = 0
 index SameFaces = 1
 index OtherFaces = 2
 
-pub same_faces : (t u : Transcript) → ∥ ShownByAStore (notes_of t) ∥₁ → ∥ ShownByAStore (notes_of u) ∥₁ → BegunAlike t u
+pub same_faces : (t u : Transcript) → ∥ ShownByAStore t.notes ∥₁ → ∥ ShownByAStore u.notes ∥₁ → BegunAlike t u
     → places_of t ≡ places_of u → Compared t u SameFaces
 same_faces t u shown_t shown_u alike same =
     let law = by_the_law t u shown_t shown_u alike in
@@ -69,7 +67,7 @@ same_faces t u shown_t shown_u alike same =
       equal_faces_when_equal_places = λ _. law;
     }
 
-pub other_faces : (t u : Transcript) → ∥ ShownByAStore (notes_of t) ∥₁ → ∥ ShownByAStore (notes_of u) ∥₁ → BegunAlike t u
+pub other_faces : (t u : Transcript) → ∥ ShownByAStore t.notes ∥₁ → ∥ ShownByAStore u.notes ∥₁ → BegunAlike t u
     → (places_of t ≡ places_of u → ⊥) → Compared t u OtherFaces
 other_faces t u shown_t shown_u alike differ =
     let law = by_the_law t u shown_t shown_u alike in
@@ -97,17 +95,3 @@ pub places_tell : (ps qs : List Place) (r : Bool) → r ≡ pointwise (λ p q. e
 places_tell ps qs r e =
     let d = slice_eq-Decides same_place ps qs r e in
     (λ t. ap (map place_number) (d.0 t), λ h. d.1 (numbers_tell ps qs h))
-
--- with equal faces the counters decide, and with other faces nothing does
-module _ (o n : Option Begun) (a b : Begun) (eo : o ≡ Some a) (en : n ≡ Some b) where
-  abbrev ToldBy : Bool → Option Begun → Option Begun → Type 0
-  ToldBy r x y = Decides r (OneBeginning (begun_told x) (begun_told y))
-
-  at_begun : (r : Bool) → ToldBy r (Some a) (Some b) → ToldBy r o n
-  at_begun r d = subst (λ x. ToldBy r x n) (sym eo) (subst (ToldBy r (Some a)) (sym en) d)
-
-  pub counters_decide : vec_items a.face ≡ vec_items b.face → ToldBy (eqb a.counter b.counter) o n
-  counters_decide same = at_begun (eqb a.counter b.counter) (λ e. (same, eqb-true a.counter b.counter e), λ h. eq-eqb a.counter b.counter h.1)
-
-  pub faces_decide : (r : Bool) → r ≡ false → Decides r (vec_items a.face ≡ vec_items b.face) → ToldBy r o n
-  faces_decide r f d = at_begun r (λ e. absurd (true≢false (sym e ∙ f)), λ h. d.1 h.0)

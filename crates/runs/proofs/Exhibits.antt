@@ -14,7 +14,7 @@ use Rattle.runs.specs.Shown.{notes_told, answered, Start, shown_by, first_shown,
 use Rattle.runs.specs.Witness.{shown_shut, ShownByAStore}
 use Rattle.runs.specs.Carried.{transcript_told, notes_in, RunOfTheLaw}
 use Rattle.runs.specs.declared.calls.Call.{Call}
-use Rattle.runs.specs.declared.notes.Notes.{Notes}
+use Rattle.runs.specs.declared.transcript.Notes.{Notes}
 use Rattle.runs.specs.declared.transcript.Transcript.{Transcript}
 use Rattle.runs.proofs.Growing.{same_told}
 

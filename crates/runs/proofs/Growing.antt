@@ -1,7 +1,6 @@
 -- A transcript that grows by one call, and format's sealings by one place.
-use Rattle.std.proofs.Common.{◌≡◌, ℕ, zero, suc, ◌+◌, ◌<◌, ◌≤◌, ◌⊎◌, List, [], ◌∷◌, ◌++◌, map, length, take, replicate, vec_items, Option, sym, refl, ap, ◌∙◌, subst, inl, inr, add-zero, add-one, arith}
-use Rattle.std.proofs.lemmas.List.{append_assoc, map_push, length_push, length-replicate, length-take-le}
-use Rattle.std.proofs.lemmas.Bool.{eq-eqb}
+use Rattle.std.proofs.Common.{◌≡◌, ℕ, zero, suc, ◌+◌, ◌<◌, ◌≤◌, ◌⊎◌, List, [], ◌∷◌, ◌++◌, map, length, take, vec_items, Option, sym, refl, ap, ◌∙◌, subst, inl, inr, add-zero, add-one, arith}
+use Rattle.std.proofs.lemmas.List.{append_assoc, map_push, length_push, length-take-le}
 use Rattle.layout.specs.Numbers.{Bytes}
 use Rattle.layout.specs.Layouts.{face}
 use Rattle.denial.specs.Denials.{place_number}
@@ -12,12 +11,11 @@ use Rattle.machine.specs.Makings.{Store, Open, Shut, Called, call, handed}
 use Rattle.machine.specs.Runs as law
 use Rattle.machine.specs.Runs.{Seen, seen_on, at_beat, faces_in, places_in, sealings_in, format_sealings}
 use Rattle.store.specs.Made.{card_of}
-use Rattle.runs.specs.Told.{call_told, told_seen, answer_told}
+use Rattle.runs.specs.Told.{Answer, call_told, told_seen, answer_told}
 use Rattle.runs.specs.Performed.{called_told}
 use Rattle.runs.specs.Shown.{Beginning, Told, begun_told, answers_told, sealing_told, notes_told, answered, Start, shown_by, left_on, seen_of, face_on, BeatNoted, OneMore}
 use Rattle.runs.specs.declared.calls.Call.{Call}
-use Rattle.runs.specs.declared.calls.Answer.{Answer}
-use Rattle.runs.specs.declared.notes.Notes.{Notes}
+use Rattle.runs.specs.declared.transcript.Notes.{Notes}
 
 -- ---- format's sealings
 
@@ -39,12 +37,6 @@ format_sealings_more i card h =
     ∙ ap (λ (n : ℕ). format_sealings 0 (take i card) ++ record { place = n; counter = n + 1 } ∷ []) e)
 
 -- ---- the face
-
-pub face_shown : (rules : Rules) (s : Store) (xs : List ℕ) → xs ≡ replicate (length (card_of s)) 0 → (call rules s (Face xs)).buffer ≡ face_on s
-face_shown rules (Open m) xs e =
-    let l : length xs ≡ length m.card = ap length e ∙ length-replicate (length m.card) 0 in
-    rw (eq-eqb (length xs) (length m.card) l)
-face_shown rules (Shut r card tape) xs e = e
 
 -- after a granted beat the face call shows the card's face
 face_after_beat : (rules : Rules) (s : Store) (c : machine.Call) → let d : Called = call rules s c in

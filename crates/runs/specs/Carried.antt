@@ -12,18 +12,15 @@ use Rattle.runs.specs.Told.{call_told}
 use Rattle.runs.specs.Shown.{Told, notes_told, first_shown, Followed}
 use Rattle.runs.specs.Witness.{shown_in}
 use Rattle.runs.specs.declared.calls.Call.{Call}
-use Rattle.runs.specs.declared.notes.Notes.{Notes}
+use Rattle.runs.specs.declared.transcript.Notes.{Notes}
 use Rattle.runs.specs.declared.transcript.Transcript.{Transcript}
 
--- what a transcript holds, and what it tells
-abbrev pub notes_of : Transcript → Notes
-notes_of t = record { begun = t.begun; answers = t.answers; faces = t.faces; places = t.places; sealings = t.sealings }
-
+-- what a transcript tells
 abbrev pub transcript_told : List Call → Transcript → Told
-transcript_told cs t = notes_told cs (notes_of t)
+transcript_told cs t = notes_told cs t.notes
 
 abbrev pub notes_in : Result Transcript AllocError → Result Notes AllocError
-notes_in (Ok t) = Ok (notes_of t)
+notes_in (Ok t) = Ok t.notes
 notes_in (Err e) = Err e
 
 -- a run that was carried out, as one of the runs that the law speaks of; the transcript is what that run shows, and the store after is its last machine

@@ -13,13 +13,13 @@ OneBeginning (Some a) None = ⊥
 OneBeginning None o = ⊥
 
 abbrev pub BegunAlike : Transcript → Transcript → Type 0
-BegunAlike t u = OneBeginning (begun_told t.begun) (begun_told u.begun)
+BegunAlike t u = OneBeginning (begun_told t.notes.begun) (begun_told u.notes.begun)
 
 abbrev pub faces_of : Transcript → List (List ℕ)
-faces_of t = map vec_items (vec_items t.faces)
+faces_of t = map vec_items (vec_items t.notes.faces)
 
 abbrev pub places_of : Transcript → List ℕ
-places_of t = map place_number (vec_items t.places)
+places_of t = map place_number (vec_items t.notes.places)
 
 -- the verdict says whether two lists are equal
 abbrev pub Tells : {X : Type 0} → Verdict → X → X → Type 0

@@ -3,8 +3,7 @@ use Rattle.std.specs.Prelude.{◌≡◌, ℕ, List, Ok, Err, Result}
 use Rattle.std.specs.declared.alloc.AllocError.{AllocError}
 use Rattle.machine.specs.Machine.{Call, Write, Read, Beat, Save, Face}
 use Rattle.machine.specs.Makings.{Called, Store, handed}
-use Rattle.runs.specs.Told.{answer_told, buffer_told}
-use Rattle.runs.specs.declared.calls.Answer.{Answer}
+use Rattle.runs.specs.Told.{Answer, answer_told, buffer_told}
 
 -- an answer to a call that was handed a buffer, and the store after it
 abbrev pub called_told : List ℕ → Answer → Store → Called

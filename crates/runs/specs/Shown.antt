@@ -12,11 +12,10 @@ use Rattle.machine.specs.Makings.{Store, Open, Shut, Called, call}
 use Rattle.machine.specs.Runs as law
 use Rattle.machine.specs.Runs.{Seen, seen_on, at_beat, faces_in, places_in, sealings_in, making_sealings}
 use Rattle.store.specs.Made.{card_of}
-use Rattle.runs.specs.Told.{call_told, told_seen}
+use Rattle.runs.specs.Told.{Answer, call_told, told_seen}
 use Rattle.runs.specs.declared.calls.Call.{Call}
 use Rattle.runs.specs.declared.calls.Call.TheVariants.{Beat}
-use Rattle.runs.specs.declared.calls.Answer.{Answer}
-use Rattle.runs.specs.declared.notes.Notes.{Notes}
+use Rattle.runs.specs.declared.transcript.Notes.{Notes}
 use Rattle.runs.specs.declared.transcript.Begun.{Begun}
 use Rattle.runs.specs.declared.transcript.Sealing.{Sealing}
 

@@ -7,7 +7,7 @@ use Rattle.machine.specs.Runs.{Run, transcript, first_face, first_counter, faces
 use Rattle.runs.specs.Told.{call_told}
 use Rattle.runs.specs.Shown.{Told, notes_told, answered}
 use Rattle.runs.specs.declared.calls.Call.{Call}
-use Rattle.runs.specs.declared.notes.Notes.{Notes}
+use Rattle.runs.specs.declared.transcript.Notes.{Notes}
 
 -- what a run of the law shows, in the law's own words
 abbrev pub shown_in : Run → Told

@@ -1,3 +1,7 @@
+ghost use Rattle.std.specs.Prelude.{◌≡◌};
+ghost use Rattle.std.specs.Option.{option_map};
+ghost use Rattle.runs.specs.Told.{file_in};
+
 use answers::beat::Beat;
 use answers::denials::Denial;
 use layout::names::Block;
@@ -21,13 +25,28 @@ pub enum Call<'a> {
     Face(usize),
 }
 
-/// What a call answered, with the caller's buffer after a granted call; a denied call leaves it zeros.
+/// What a granted call answered, with the caller's buffer after it.
 #[derive(Drop)]
-pub enum Answer {
+pub enum Granted {
     Written,
     Valued(Vec<u8>),
     Beaten(Beat),
+    // The whole buffer beside the file's length: a call tells what the bytes behind the file hold.
     Saved(usize, Vec<u8>),
     Shown(Vec<u32>),
-    Denied(Denial),
 }
+
+impl Granted {
+    /// The map file that a save wrote: the front of its buffer.
+    pub fn map_file(&self) -> Option<&[u8]>
+        ensures { option_map (λ file. file.now) result ≡ file_in self.now }
+    {
+        match self {
+            Granted::Saved(count, bytes) => bytes.as_slice().get(..(*count).min(bytes.len())),
+            _ => None,
+        }
+    }
+}
+
+/// What a call answered; a denied call leaves the caller's buffer zeros.
+pub type Answer = Result<Granted, Denial>;

@@ -19,11 +19,11 @@ pub enum Verdict {
 pub fn compare(one: &Transcript, other: &Transcript) -> Verdict
     ensures { Compared one.now other.now result }
 {
-    if !begun_alike(&one.begun, &other.begun) {
+    if !begun_alike(&one.notes.begun, &other.notes.begun) {
         return Verdict::BegunApart;
     }
     // No later face is looked at: by the law the places, one number a beat, decide the faces.
-    if one.places == other.places {
+    if one.notes.places == other.notes.places {
         Verdict::SameFaces
     } else {
         Verdict::OtherFaces
@@ -35,7 +35,7 @@ fn begun_alike(one: &Option<Begun>, other: &Option<Begun>) -> bool
     ensures { Decides result (OneBeginning (begun_told one.now) (begun_told other.now)) }
 {
     match (one, other) {
-        (Some(one), Some(other)) => one.face == other.face && one.counter == other.counter,
+        (Some(one), Some(other)) => one == other,
         _ => false,
     }
 }

@@ -2,13 +2,12 @@ ghost use Rattle.std.specs.Prelude.{◌≡◌, List, map, length, IfOk, OnOk};
 ghost use Rattle.layout.specs.Numbers.{Bytes};
 ghost use Rattle.machine.specs.Makings.{call as call_of};
 ghost use Rattle.machine.specs.Runs.{format_sealings};
-ghost use Rattle.store.specs.View.{store as store_told, seal_of};
 ghost use Rattle.runs.specs.Told.{making_told, call_told, answer_told};
 ghost use Rattle.runs.specs.Shown.{begun_told, begun_of, sealing_told, first_sealings, face_on, BeatNoted, CallNoted};
 
-use crate::calls::{Answer, Call, Making};
+use crate::calls::{Answer, Call, Granted, Making};
 use crate::perform::perform;
-use crate::transcript::{Begun, Sealing};
+use crate::transcript::{Begun, Notes, Sealing};
 use card::card::Card;
 use layout::names::Place;
 use seal::seal::Seal;
@@ -16,22 +15,12 @@ use std::alloc::{AllocError, Global};
 use store::state::Store;
 use tape::tape::Tape;
 
-/// A transcript while the run goes on.
-#[derive(Drop)]
-pub(crate) struct Notes {
-    pub begun: Option<Begun>,
-    pub answers: Vec<Answer>,
-    pub faces: Vec<Vec<u32>>,
-    pub places: Vec<Place>,
-    pub sealings: Vec<Sealing>,
-}
-
 /// How a run on the store begins.
 pub(crate) fn note_beginning<C: Card, S: Seal, T: Tape>(
     heap: Global,
     store: &Store<C, S, T>,
 ) -> Result<Option<Begun>, AllocError>
-    ensures { IfOk result (λ b. begun_told b ≡ begun_of (store_told C.Card.records T.Tape.words store.now)) }
+    ensures { IfOk result (λ b. begun_told b ≡ begun_of store.now.store) }
 {
     let Some(counter) = store.last_counter() else {
         return Ok(None);
@@ -47,7 +36,7 @@ pub(crate) fn note_making<C: Card, S: Seal, T: Tape>(
     making: &Making,
     count: u32,
 ) -> Result<Vec<Sealing>, AllocError>
-    ensures { IfOk result (λ v. (card : List Bytes) → length card ≡ count → map sealing_told v.items ≡ first_sealings (store_told C.Card.records T.Tape.words store.now) (making_told making.now) card) }
+    ensures { IfOk result (λ v. (card : List Bytes) → length card ≡ count → map sealing_told v.items ≡ first_sealings store.now.store (making_told making.now) card) }
 {
     match making {
         Making::Format(_) => match store.answer() {
@@ -63,6 +52,7 @@ fn note_format(heap: Global, count: u32) -> Result<Vec<Sealing>, AllocError>
     ensures { IfOk result (λ v. (card : List Bytes) → length card ≡ count → map sealing_told v.items ≡ format_sealings 0 card) }
 {
     let mut sealings = Vec::new(heap);
+    // As a chain of the places and the counters the proof does not close.
     for i in 0..count {
         sealings.push(Sealing {
             place: Place(i),
@@ -77,7 +67,7 @@ fn face_of<C: Card, S: Seal, T: Tape>(
     heap: Global,
     store: &Store<C, S, T>,
 ) -> Result<Vec<u32>, AllocError>
-    ensures { IfOk result (λ v. v.items ≡ face_on (store_told C.Card.records T.Tape.words store.now)) }
+    ensures { IfOk result (λ v. v.items ≡ face_on store.now.store) }
 {
     let mut face = vec![in heap; 0u32; store.places() as usize]?;
     let _ = store.face(&mut face);
@@ -91,9 +81,9 @@ fn note_beat<C: Card, S: Seal, T: Tape>(
     answer: &Answer,
     notes: &mut Notes,
 ) -> Result<(), AllocError>
-    ensures { OnOk result (BeatNoted (answer_told answer.now) (store_told C.Card.records T.Tape.words store.now) notes.old notes.new) }
+    ensures { OnOk result (BeatNoted (answer_told answer.now) store.now.store notes.old notes.new) }
 {
-    let Answer::Beaten(beat) = answer else {
+    let Ok(Granted::Beaten(beat)) = answer else {
         return Ok(());
     };
     notes.faces.push(face_of(heap, store)?)?;
@@ -112,8 +102,8 @@ pub(crate) fn note_call<C: Card, S: Seal, T: Tape>(
     call: &Call,
     notes: &mut Notes,
 ) -> Result<(), AllocError>
-    ensures step { CallNoted call.now (call_of (S.Seal.rules (seal_of C.Card.records T.Tape.words store.old)) (store_told C.Card.records T.Tape.words store.old) (call_told call.now)) (store_told C.Card.records T.Tape.words store.old) (store_told C.Card.records T.Tape.words store.new) notes.old notes.new result }
-    ensures seal { seal_of C.Card.records T.Tape.words store.new ≡ seal_of C.Card.records T.Tape.words store.old }
+    ensures step { CallNoted call.now (call_of (S.Seal.rules store.old.seal) store.old.store (call_told call.now)) store.old.store store.new.store notes.old notes.new result }
+    ensures seal { store.new.seal ≡ store.old.seal }
 {
     let answer = perform(heap, store, call)?;
     note_beat(heap, store, &answer, notes)?;

@@ -2,7 +2,6 @@ ghost use Rattle.std.specs.Prelude.{◌≡◌, List, length, IfOk};
 ghost use Rattle.layout.specs.Numbers.{Bytes};
 ghost use Rattle.machine.specs.Makings.{make as make_of};
 ghost use Rattle.store.specs.Made.{MadeBy};
-ghost use Rattle.store.specs.View.{store as store_told, seal_of};
 ghost use Rattle.runs.specs.Told.{making_told};
 ghost use Rattle.runs.specs.Carried.{CarriedOut, notes_in};
 ghost use Rattle.runs.specs.Shown.{notes_told, first_shown, Followed};
@@ -10,9 +9,10 @@ ghost use Rattle.runs.specs.Witness.{ShownByAStore};
 
 use crate::bytes::of_bytes;
 use crate::calls::{Call, Making};
-use crate::notes::{Notes, note_beginning, note_call, note_making};
-use crate::transcript::{Ran, Transcript};
+use crate::notes::{note_beginning, note_call, note_making};
+use crate::transcript::{Notes, Ran, Transcript};
 use card::card::Card;
+use engine::state::Ends;
 use seal::seal::Seal;
 use std::alloc::{AllocError, Global};
 use store::state::Store;
@@ -21,18 +21,16 @@ use tape::tape::Tape;
 /// Makes a store and makes a list of calls on it; answers the store after them and the transcript of what was shown.
 pub fn run<C: Card, S: Seal, T: Tape>(
     heap: Global,
-    card: C,
-    seal: S,
-    tape: T,
+    ends: Ends<C, S, T>,
     making: &Making,
     calls: &[Call],
 ) -> Ran<C, S, T>
-    ensures run { CarriedOut (S.Seal.rules seal) (C.Card.records card) (T.Tape.words tape) (making_told making.now) calls.now (store_told C.Card.records T.Tape.words result.store) result.transcript }
-    ensures seal { seal_of C.Card.records T.Tape.words result.store ≡ seal }
+    ensures run { CarriedOut (S.Seal.rules ends.seal) (C.Card.records ends.card) (T.Tape.words ends.tape) (making_told making.now) calls.now result.store.store result.transcript }
+    ensures seal { result.store.seal ≡ ends.seal }
 {
-    let count = card.count();
+    let count = ends.card.count();
     of_bytes(making);
-    let mut store = make(heap, card, seal, tape, making);
+    let mut store = make(heap, ends, making);
     let notes = follow(heap, &mut store, making, count, calls);
     Ran {
         store,
@@ -43,17 +41,15 @@ pub fn run<C: Card, S: Seal, T: Tape>(
 /// Any making.
 fn make<C: Card, S: Seal, T: Tape>(
     heap: Global,
-    card: C,
-    seal: S,
-    tape: T,
+    ends: Ends<C, S, T>,
     making: &Making,
 ) -> Store<C, S, T>
-    ensures made { MadeBy (store_told C.Card.records T.Tape.words result) (C.Card.records card) (T.Tape.words tape) (make_of (S.Seal.rules seal) (C.Card.records card) (T.Tape.words tape) (making_told making.now)) }
-    ensures seal { seal_of C.Card.records T.Tape.words result ≡ seal }
+    ensures made { MadeBy result.store (C.Card.records ends.card) (T.Tape.words ends.tape) (make_of (S.Seal.rules ends.seal) (C.Card.records ends.card) (T.Tape.words ends.tape) (making_told making.now)) }
+    ensures seal { result.seal ≡ ends.seal }
 {
     match making {
-        Making::Format(blocks) => Store::format(heap, card, seal, tape, *blocks),
-        Making::Resume(file) => Store::resume(heap, card, seal, tape, file),
+        Making::Format(blocks) => Store::format(heap, ends, *blocks),
+        Making::Resume(file) => Store::resume(heap, ends, file),
     }
 }
 
@@ -65,8 +61,8 @@ fn follow<C: Card, S: Seal, T: Tape>(
     count: u32,
     calls: &[Call],
 ) -> Result<Notes, AllocError>
-    ensures step { (card : List Bytes) → length card ≡ count → Followed notes_told (S.Seal.rules (seal_of C.Card.records T.Tape.words store.old)) (store_told C.Card.records T.Tape.words store.old) (first_shown (store_told C.Card.records T.Tape.words store.old) (making_told making.now) card) calls.now (store_told C.Card.records T.Tape.words store.new) result }
-    ensures seal { seal_of C.Card.records T.Tape.words store.new ≡ seal_of C.Card.records T.Tape.words store.old }
+    ensures step { (card : List Bytes) → length card ≡ count → Followed notes_told (S.Seal.rules store.old.seal) store.old.store (first_shown store.old.store (making_told making.now) card) calls.now store.new.store result }
+    ensures seal { store.new.seal ≡ store.old.seal }
 {
     let mut notes = Notes {
         begun: note_beginning(heap, store)?,
@@ -86,18 +82,5 @@ fn finish(notes: Result<Notes, AllocError>) -> Result<Transcript, AllocError>
     requires { IfOk notes (λ n. ∥ ShownByAStore n ∥₁) }
     ensures { notes_in result ≡ notes }
 {
-    let Notes {
-        begun,
-        answers,
-        faces,
-        places,
-        sealings,
-    } = notes?;
-    Ok(Transcript {
-        begun,
-        answers,
-        faces,
-        places,
-        sealings,
-    })
+    Ok(Transcript { notes: notes? })
 }

@@ -16,26 +16,33 @@ pub struct Sealing {
 }
 
 /// How a run begins: the card's face and the last counter after the making.
-#[derive(Drop)]
+#[derive(PartialEq, Eq, Drop)]
 pub struct Begun {
     pub face: Vec<u32>,
     pub counter: u32,
 }
 
-/// What a run shows. Some run of the law shows it, or a shut store: the type carries that.
+/// What a run shows, noted as it goes on.
 #[derive(Drop)]
-pub struct Transcript {
+pub struct Notes {
     /// How the run begins; none after a denied making.
     pub begun: Option<Begun>,
     /// What each call answered.
     pub answers: Vec<Answer>,
     /// The card's face after each granted beat.
+    // Faces and places are two lists, as in the law: the places alone decide whether the faces are equal.
     pub faces: Vec<Vec<u32>>,
     /// The place of each granted beat.
     pub places: Vec<Place>,
     /// The sealings: the making's, then one a granted beat.
     pub sealings: Vec<Sealing>,
-    ghost shown: { ∥ ShownByAStore (record { begun = begun; answers = answers; faces = faces; places = places; sealings = sealings }) ∥₁ },
+}
+
+/// The notes of a whole run. Some run of the law shows them, or a shut store: the type carries that.
+#[derive(Drop)]
+pub struct Transcript {
+    pub notes: Notes,
+    ghost shown: { ∥ ShownByAStore notes ∥₁ },
 }
 
 /// The store after a run, and the run's transcript, or want of memory for it.

@@ -1,6 +1,6 @@
 ghost use Rattle.seal.specs.Faults.{seal_denial};
 
-use denial::{Fault, Layer};
+use denial::{Fault, Layer, Row};
 use layout::names::Place;
 
 /// Why a seal denies.
@@ -15,21 +15,16 @@ pub enum SealFault {
 impl Fault for SealFault {
     ghost denial = { seal_denial };
 
-    fn number(&self) -> u32 {
-        match self {
-            SealFault::Size => 16,
-            SealFault::Tag(_) => 17,
-        }
-    }
-
-    fn layer(&self) -> Layer {
-        Layer::Seal
-    }
-
-    fn place(&self) -> Option<Place> {
-        match self {
-            SealFault::Size => None,
-            SealFault::Tag(place) => Some(*place),
+    // The numbers are the table's, which people and scripts read.
+    fn row(&self) -> Row {
+        let (number, place) = match self {
+            SealFault::Size => (16, None),
+            SealFault::Tag(place) => (17, Some(*place)),
+        };
+        Row {
+            number,
+            layer: Layer::Seal,
+            place,
         }
     }
 }

@@ -3,7 +3,7 @@
 
 pub mod bench;
 pub mod fault;
-mod scheme;
+pub mod scheme;
 pub mod seal;
 pub mod street;
 #[cfg(test)]

@@ -1,12 +1,12 @@
 //! What the seals share: a cover for the body, a tag over what it covers, and one way to use them.
-ghost use Rattle.std.specs.Prelude.{◌≡◌, ℕ, length};
-ghost use Rattle.layout.specs.Numbers.{Bytes};
-ghost use Rattle.denial.specs.Denials.{told};
-ghost use Rattle.seal.specs.Faults.{seal_denial};
-ghost use Rattle.seal.specs.Seals.{seal_of, open_of};
+ghost use Rattle.std.specs.Prelude.{◌≡◌, ◌++◌};
+ghost use Rattle.layout.specs.Numbers.{little};
 ghost use Rattle.seal.specs.Schemes.{Cover, Tagging, rules_by};
+ghost use Rattle.seal.specs.Schemed;
+ghost use Rattle.seal.specs.Schemed.{Fit};
 
 use crate::fault::SealFault;
+use crate::seal::Seal;
 use layout::names::Place;
 use layout::records::Record;
 
@@ -21,52 +21,61 @@ pub trait Scheme {
 
     fn tag(&self, at: Place, counter: u32, covered: &[u8; 52]) -> [u8; 8]
         ensures { result ≡ tags self.now at.0 counter covered.now };
+
+    ghost fit: { (m : Self) → Fit (covers m) (tags m) };
 }
 
-pub fn seal_by<M: Scheme>(
-    scheme: &M,
-    at: Place,
-    counter: u32,
-    body: &[u8],
-    buffer: &mut [u8],
-) -> Result<(), SealFault>
-    ensures { (told seal_denial result, buffer.new) ≡ seal_of (rules_by (M.Scheme.covers scheme.now) (M.Scheme.tags scheme.now)) at.0 counter body.now buffer.old }
+/// The place, then the counter: what a record is sealed for.
+pub(crate) fn place_and_counter(at: Place, counter: u32) -> [u8; 8]
+    ensures { result ≡ little 4 at.0 ++ little 4 counter }
 {
-    let Ok(body) = <&[u8; 52]>::try_from(body) else {
-        return Err(SealFault::Size);
-    };
-    if buffer.len() != 64 {
-        return Err(SealFault::Size);
-    }
-    let sealed = scheme.cover(at, counter, body);
-    let tag = scheme.tag(at, counter, &sealed);
-    let row = Record {
-        counter,
-        sealed,
-        tag,
-    };
-    buffer.copy_from_slice(&row.to_bytes());
-    Ok(())
+    let mut bytes = [0; 8];
+    bytes[0..4].copy_from_slice(&at.0.to_le_bytes());
+    bytes[4..8].copy_from_slice(&counter.to_le_bytes());
+    bytes
 }
 
-pub fn open_by<M: Scheme>(
-    scheme: &M,
-    at: Place,
-    bytes: &[u8],
-    buffer: &mut [u8],
-) -> Result<u32, SealFault>
-    ensures { (told seal_denial result, buffer.new) ≡ open_of (rules_by (M.Scheme.covers scheme.now) (M.Scheme.tags scheme.now)) at.0 bytes.now buffer.old }
-{
-    let Ok(bytes) = <&[u8; 64]>::try_from(bytes) else {
-        return Err(SealFault::Size);
-    };
-    if buffer.len() != 52 {
-        return Err(SealFault::Size);
+impl<M: Scheme> Seal for M {
+    ghost rules = { λ m. rules_by (M.Scheme.covers m) (M.Scheme.tags m) };
+
+    ghost lawful = { λ m. Schemed.lawful (M.Scheme.covers m) (M.Scheme.tags m) (M.Scheme.fit m) };
+
+    fn seal(
+        &self,
+        at: Place,
+        counter: u32,
+        body: &[u8],
+        buffer: &mut [u8],
+    ) -> Result<(), SealFault> {
+        let Ok(body) = <&[u8; 52]>::try_from(body) else {
+            return Err(SealFault::Size);
+        };
+        if buffer.len() != 64 {
+            return Err(SealFault::Size);
+        }
+        let sealed = self.cover(at, counter, body);
+        let tag = self.tag(at, counter, &sealed);
+        let record = Record {
+            counter,
+            sealed,
+            tag,
+        };
+        buffer.copy_from_slice(&record.to_bytes());
+        Ok(())
     }
-    let row = Record::from_bytes(bytes);
-    if scheme.tag(at, row.counter, &row.sealed) != row.tag {
-        return Err(SealFault::Tag(at));
+
+    fn open(&self, at: Place, bytes: &[u8], buffer: &mut [u8]) -> Result<u32, SealFault> {
+        let Ok(bytes) = <&[u8; 64]>::try_from(bytes) else {
+            return Err(SealFault::Size);
+        };
+        if buffer.len() != 52 {
+            return Err(SealFault::Size);
+        }
+        let record = Record::from_bytes(bytes);
+        if self.tag(at, record.counter, &record.sealed) != record.tag {
+            return Err(SealFault::Tag(at));
+        }
+        buffer.copy_from_slice(&self.cover(at, record.counter, &record.sealed));
+        Ok(record.counter)
     }
-    buffer.copy_from_slice(&scheme.cover(at, row.counter, &row.sealed));
-    Ok(row.counter)
 }

@@ -10,6 +10,7 @@ use layout::names::Place;
 pub trait Seal {
     ghost rules: { Self → Rules };
 
+    // Place and counter stay two: the card is asked by the one, and the record tells the other.
     /// Seals a body for a place and a counter into a buffer of 64 bytes.
     fn seal(&self, at: Place, counter: u32, body: &[u8], buffer: &mut [u8]) -> Result<(), SealFault>
         ensures { (told seal_denial result, buffer.new) ≡ seal_of (rules self.now) at.0 counter body.now buffer.old };

@@ -7,6 +7,7 @@ use layout::names::Place;
 use std::process::Abort;
 use std::test::Fail;
 
+// A crate for one helper of three tests would be no plainer.
 fn tells<T: Drop>(
     rt: &impl Abort,
     name: &str,

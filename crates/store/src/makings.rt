@@ -1,12 +1,12 @@
 ghost use Rattle.std.specs.Prelude.{◌≡◌};
 ghost use Rattle.machine.specs.Makings.{format, resume};
 ghost use Rattle.store.specs.Made.{MadeBy};
-ghost use Rattle.store.specs.View.{store, seal_of};
+ghost use Rattle.store.specs.View.{assembled};
 
 use super::state::{ShutStore, Store};
+use answers::denials::Denial;
 use card::card::Card;
-use engine::state::OpenStore;
-use prepare::memory::Memory;
+use engine::state::{Ends, Memory, OpenStore};
 use prepare::prepare::{prepare_format, prepare_resume};
 use seal::seal::Seal;
 use std::alloc::Global;
@@ -14,55 +14,37 @@ use tape::tape::Tape;
 
 impl<C: Card, S: Seal, T: Tape> Store<C, S, T> {
     /// Makes a store of so many blocks on a card that is sealed anew, all dummies.
-    pub fn format(heap: Global, card: C, seal: S, tape: T, blocks: u32) -> Store<C, S, T>
-        ensures made { MadeBy (store C.Card.records T.Tape.words result) (C.Card.records card) (T.Tape.words tape) (format (S.Seal.rules seal) (C.Card.records card) (T.Tape.words tape) blocks) }
-        ensures seal { seal_of C.Card.records T.Tape.words result ≡ seal }
+    pub fn format(heap: Global, ends: Ends<C, S, T>, blocks: u32) -> Store<C, S, T>
+        ensures made { MadeBy result.store (C.Card.records ends.card) (T.Tape.words ends.tape) (format (S.Seal.rules ends.seal) (C.Card.records ends.card) (T.Tape.words ends.tape) blocks) }
+        ensures seal { result.seal ≡ ends.seal }
     {
-        let mut card = card;
-        match prepare_format(heap, &mut card, &seal, blocks) {
-            Ok(memory) => {
-                let Memory { last, map, waiting } = memory;
-                Store::Open(OpenStore {
-                    card,
-                    seal,
-                    tape,
-                    last,
-                    map,
-                    waiting,
-                })
-            }
-            Err(denial) => Store::Shut(ShutStore {
-                card,
-                seal,
-                tape,
-                denial,
-            }),
-        }
+        let Ends {
+            mut card,
+            seal,
+            tape,
+        } = ends;
+        let prepared = prepare_format(heap, &mut card, &seal, blocks);
+        Store::assemble(Ends { card, seal, tape }, prepared)
     }
 
     /// Makes a store from a map file and the card that it was saved beside. The card is not written.
-    pub fn resume(heap: Global, card: C, seal: S, tape: T, file: &[u8]) -> Store<C, S, T>
-        ensures made { MadeBy (store C.Card.records T.Tape.words result) (C.Card.records card) (T.Tape.words tape) (resume (S.Seal.rules seal) (C.Card.records card) (T.Tape.words tape) file.now) }
-        ensures seal { seal_of C.Card.records T.Tape.words result ≡ seal }
+    pub fn resume(heap: Global, ends: Ends<C, S, T>, file: &[u8]) -> Store<C, S, T>
+        ensures made { MadeBy result.store (C.Card.records ends.card) (T.Tape.words ends.tape) (resume (S.Seal.rules ends.seal) (C.Card.records ends.card) (T.Tape.words ends.tape) file.now) }
+        ensures seal { result.seal ≡ ends.seal }
     {
-        match prepare_resume(heap, &card, &seal, file) {
-            Ok(memory) => {
-                let Memory { last, map, waiting } = memory;
-                Store::Open(OpenStore {
-                    card,
-                    seal,
-                    tape,
-                    last,
-                    map,
-                    waiting,
-                })
-            }
-            Err(denial) => Store::Shut(ShutStore {
-                card,
-                seal,
-                tape,
-                denial,
-            }),
-        }
+        let prepared = prepare_resume(heap, &ends.card, &ends.seal, file);
+        Store::assemble(ends, prepared)
+    }
+
+    /// An open store with the memory that was prepared, or a shut one.
+    fn assemble(ends: Ends<C, S, T>, prepared: Result<Memory, Denial>) -> Store<C, S, T>
+        ensures store { result.store ≡ assembled (C.Card.records ends.card) (T.Tape.words ends.tape) prepared }
+        ensures seal { result.seal ≡ ends.seal }
+    {
+        let state = match prepared {
+            Ok(memory) => Ok(OpenStore::new(ends, memory)),
+            Err(denial) => Err(ShutStore { ends, denial }),
+        };
+        Store { state }
     }
 }

@@ -1,26 +1,13 @@
 -- An index by place, from making to settling.
 use Rattle.std.proofs.Common.{◌≡◌, ℕ, zero, suc, ◌+◌, ◌<◌, true, false, cond, not, eqb, List, [], ◌∷◌, length, get_or, set, replicate, Some, None, Option, sym, refl, ap, ◌∙◌, subst, ⊎_elim, arith}
 use Rattle.std.proofs.lemmas.List.{length-set, length-map, get_or-map, get_or-set_same, get_or-set_other, map-set}
-use Rattle.std.proofs.lemmas.Bool.{and_parts, or_parts, not-true, eqb-true, eqb-false, eq-eqb, ne_eqb, cond-true, cond-false, cases_eq}
+use Rattle.std.proofs.lemmas.Bool.{and_parts, or_parts, not-true, eqb-false, eq-eqb, ne_eqb, cond-true, cond-false, cases_eq}
 use Rattle.layout.specs.declared.names.Block.{Block}
 use Rattle.layout.specs.declared.names.Place.{Place}
 use Rattle.machine.specs.Machine.{occupant_from, occupant}
 use Rattle.tables.specs.Apart.{held, apart}
-use Rattle.tables.specs.Index.{alike, Indexes}
+use Rattle.tables.specs.Index.{Indexes}
 use Rattle.tables.specs.Views.{place_of, block_of, placed, indexed, noted}
-
-pub same : (x y : Option ℕ) → alike x y ≡ true → x ≡ y
-same None None e = refl
-same None (Some b) e = let z : ◌≡◌ {A = ℕ} 0 1 = cc in absurd (omega arith)
-same (Some a) None e = let z : ◌≡◌ {A = ℕ} 0 1 = cc in absurd (omega arith)
-same (Some a) (Some b) e = ap Some (eqb-true a b e)
-
-pub self_alike : (x : Option ℕ) → alike x x ≡ true
-self_alike None = refl
-self_alike (Some a) = eq-eqb a a refl
-
-pub are_alike : (x y : Option ℕ) → x ≡ y → alike x y ≡ true
-are_alike x y e = ap (alike x) (sym e) ∙ self_alike x
 
 -- where nobody has the place
 pub none_from : (i : ℕ) (xs : List (Option ℕ)) (q : ℕ) → held xs q ≡ false → occupant_from i xs q ≡ None
@@ -67,12 +54,6 @@ other_from i (Some r ∷ xs) zero p q g ne =
 other_from i (None ∷ xs) (suc b) p q g ne = other_from (suc i) xs b p q g ne
 other_from i (Some r ∷ xs) (suc b) p q g ne = ap (cond (eqb r q) (Some i)) (other_from (suc i) xs b p q g ne)
 
--- an entry that was read
-pub entry_is : (os : List (Option Block)) (xs : List (Option ℕ)) (p : ℕ) (o : Option Block) → Indexes (indexed os) xs → p < length os → o ≡ get_or os p o
-    → block_of o ≡ occupant xs p
-entry_is os xs p o all l e =
-    ap block_of e ∙ (sym (get_or-map block_of os p o None l) ∙ same _ _ (all p (simp length-map l)))
-
 -- an index of a map in which no block has landed
 nobody : (i n q : ℕ) → occupant_from i (placed (replicate n None)) q ≡ None
 nobody i zero q = refl
@@ -80,7 +61,7 @@ nobody i (suc n) q = nobody (suc i) n q
 
 pub fresh_index : (os : List (Option Block)) (ps : List (Option Place)) (m n : ℕ) → os ≡ replicate m None → ps ≡ replicate n None → Indexes (indexed os) (placed ps)
 fresh_index os ps m n e f p l =
-    are_alike _ _ (ap (λ z. get_or (indexed z) p None) e ∙ (empty m p ∙ (sym (nobody 0 n p) ∙ ap (λ z. occupant (placed z) p) (sym f))))
+    (ap (λ z. get_or (indexed z) p None) e ∙ (empty m p ∙ (sym (nobody 0 n p) ∙ ap (λ z. occupant (placed z) p) (sym f))))
   where
     empty : (k q : ℕ) → get_or (indexed (replicate k None)) q None ≡ None
     empty zero q = refl
@@ -101,7 +82,7 @@ vacated es (Some q) = set es q None
 module _ (es xs : List (Option ℕ)) (b p : ℕ) (all : Indexes es xs) (alone : apart xs ≡ true) (unheld : held xs p ≡ false) (below : b < length xs) where
   elsewhere : (o : Option ℕ) → get_or xs b None ≡ o → (k : ℕ) → k < length es → (k ≡ p → ⊥) → get_or (vacated es o) k None ≡ occupant (set xs b (Some p)) k
   elsewhere None e k l ne =
-      same _ _ (all k l) ∙ sym (other_from 0 xs b p k (λ f. let z : ◌≡◌ {A = ℕ} 0 1 = cc in omega arith) (λ f. ne (sym f)))
+      all k l ∙ sym (other_from 0 xs b p k (λ f. let z : ◌≡◌ {A = ℕ} 0 1 = cc in omega arith) (λ f. ne (sym f)))
   elsewhere (Some q) e k l ne = ⊎_elim former other (cases_eq k q)
     where
       former : k ≡ q → get_or (set es q None) k None ≡ occupant (set xs b (Some p)) k
@@ -113,14 +94,14 @@ module _ (es xs : List (Option ℕ)) (b p : ℕ) (all : Indexes es xs) (alone : 
       other : (k ≡ q → ⊥) → get_or (set es q None) k None ≡ occupant (set xs b (Some p)) k
       other f =
           get_or-set_other es q k None None f
-          ∙ (same _ _ (all k l) ∙ sym (other_from 0 xs b p k (λ g. f (let s : k ≡ q = cc in s)) (λ g. ne (sym g))))
+          ∙ (all k l ∙ sym (other_from 0 xs b p k (λ g. f (let s : k ≡ q = cc in s)) (λ g. ne (sym g))))
 
   size : (o : Option ℕ) → length (vacated es o) ≡ length es
   size None = refl
   size (Some q) = length-set es q None
 
   moves : Indexes (set (vacated es (get_or xs b None)) p (Some b)) (set xs b (Some p))
-  moves k l = are_alike _ _ (⊎_elim here (λ f. get_or-set_other (vacated es (get_or xs b None)) p k (Some b) None f ∙ elsewhere (get_or xs b None) refl k k_below f) (cases_eq k p))
+  moves k l = (⊎_elim here (λ f. get_or-set_other (vacated es (get_or xs b None)) p k (Some b) None f ∙ elsewhere (get_or xs b None) refl k k_below f) (cases_eq k p))
     where
       sized : length (vacated es (get_or xs b None)) ≡ length es
       sized = size (get_or xs b None)

@@ -1,6 +1,6 @@
 -- No two blocks have one place, from making to settling.
-use Rattle.std.proofs.Common.{◌≡◌, ℕ, zero, suc, Bool, true, false, cond, not, ◌||◌, T, eqb, List, [], ◌∷◌, set, replicate, Some, None, Option, sym, refl, ap}
-use Rattle.std.proofs.lemmas.Bool.{and_parts, and_from, or_parts, or_from, not-true, not_from_false, eqb-false, ne_eqb, both_ways}
+use Rattle.std.proofs.Common.{◌≡◌, ℕ, zero, suc, true, false, cond, not, ◌||◌, eqb, List, [], ◌∷◌, set, replicate, Some, None, Option, sym, refl, ap}
+use Rattle.std.proofs.lemmas.Bool.{and_parts, and_from, or_parts, or_from, not-true, not_from_false, eqb-false, ne_eqb}
 use Rattle.machine.specs.Machine.{occupant_from}
 use Rattle.tables.specs.Apart.{held, apart}
 use Rattle.tables.specs.Views.{placed}
@@ -33,14 +33,6 @@ still (Some r ∷ xs) (suc b) p h a =
 pub fresh : (n : ℕ) → apart (placed (replicate n None)) ≡ true
 fresh zero = refl
 fresh (suc n) = fresh n
-
-pub as_T : (b : Bool) → b ≡ true → T b
-as_T true e = tt
-as_T false e = both_ways false refl e
-
-pub of_T : (b : Bool) → T b → b ≡ true
-of_T true h = refl
-of_T false h = absurd h
 
 pub none_placed : (n : ℕ) → placed (replicate n None) ≡ replicate n None
 none_placed zero = refl

@@ -1,13 +1,15 @@
 -- Look-ups in the waiting list and the position map, as loops make them.
-use Rattle.std.proofs.Common.{◌≡◌, ℕ, suc, ◌+◌, ◌<◌, ◌≤◌, true, false, cond, eqb, List, [], ◌∷◌, length, get_or, drop, set, IfSome, Some, None, Option, sym, refl, ap, ◌∙◌, subst, add-one, arith, MutBor}
-use Rattle.std.proofs.lemmas.List.{at_drop_more, at_drop_all, drop-map, get_or-map}
-use Rattle.std.proofs.lemmas.Bool.{cond-true, cond-false, eq-eqb, ne_eqb, eqb-true}
+use Rattle.std.proofs.Common.{◌≡◌, ℕ, suc, ◌+◌, ◌<◌, Bool, true, false, cond, eqb, List, [], ◌∷◌, length, get_or, set, Some, None, Option, sym, refl, ap, ◌∙◌, subst, add-one, arith}
+use Rattle.std.specs.List.{position, position_from, find}
+use Rattle.std.specs.Option.{option_map}
+use Rattle.std.proofs.lemmas.List.{length-map, map-set, get_or-map}
+use Rattle.std.proofs.lemmas.Iterator.Adapters.{position_from-zero}
+use Rattle.std.proofs.lemmas.Bool.{eqb-true}
 use Rattle.layout.specs.declared.body.Body.{Body}
-use Rattle.layout.specs.declared.names.Block.{Block}
 use Rattle.layout.specs.declared.names.Place.{Place}
 use Rattle.layout.specs.Numbers.{Bytes}
 use Rattle.machine.specs.Machine.{awaited, altered, occupant_from, occupant}
-use Rattle.tables.specs.Views.{waited, placed, entry_of, turn_from, turn, first_in}
+use Rattle.tables.specs.Views.{waited, placed, entry_of, turn_from, turn}
 
 -- what the turn of a block says of the other look-ups
 pub record Found (ws : List (ℕ × Bytes)) (b k : ℕ) : Type 0 where
@@ -34,77 +36,40 @@ present j (w ∷ ws) b i e =
 pub present_at : (ws : List (ℕ × Bytes)) (b i : ℕ) → turn ws b ≡ Some i → Found ws b i
 present_at ws b i e = let p = present 0 ws b i e in let q : p.0 ≡ i = (let r = p.1 in omega arith) in subst (λ k. Found ws b k) q p.2
 
--- the loop of `find`
-abbrev pub Seeks : List Body → ℕ → ℕ → Type 0
-Seeks xs b i = turn_from i (waited (drop i xs)) b ≡ turn_from 0 (waited xs) b
+-- the test of a search for a block
+abbrev pub of_block : ℕ → Body → Bool
+of_block b x = eqb x.block.0 b
 
-pub found_here : (xs : List Body) (i b : ℕ) (x : Body) → i < length xs → (get_or xs i x).block.0 ≡ b → Seeks xs b i → Some i ≡ turn (waited xs) b
-found_here xs i b x h e inv =
-    let s = at_drop_more (λ zs. turn_from i (waited zs) b) xs i x h in
-    let t : turn_from i (waited (get_or xs i x ∷ drop (i + 1) xs)) b ≡ Some i = cond-true (eqb (get_or xs i x).block.0 b) _ _ (eq-eqb _ _ e) in
-    sym t ∙ (sym s ∙ inv)
+-- a search from the front finds the turn of a block
+turn_searched : (i : ℕ) (xs : List Body) (b : ℕ) → position_from (of_block b) i xs ≡ turn_from i (waited xs) b
+turn_searched i [] b = refl
+turn_searched i (x ∷ xs) b =
+    ap (λ (n : ℕ). cond (of_block b x) (Some i) (position_from (of_block b) n xs)) (add-one i) ∙ ap (cond (of_block b x) (Some i)) (turn_searched (suc i) xs b)
 
-pub found_later : (xs : List Body) (i b : ℕ) (x : Body) → i < length xs → ((get_or xs i x).block.0 ≡ b → ⊥) → Seeks xs b i → Seeks xs b (i + 1)
-found_later xs i b x h e inv =
-    let s = at_drop_more (λ zs. turn_from i (waited zs) b) xs i x h in
-    let t : turn_from i (waited (get_or xs i x ∷ drop (i + 1) xs)) b ≡ turn_from (suc i) (waited (drop (i + 1) xs)) b = cond-false (eqb (get_or xs i x).block.0 b) _ _ (ne_eqb _ _ e) in
-    ap (λ n. turn_from n (waited (drop (i + 1) xs)) b) (add-one i) ∙ (sym t ∙ (sym s ∙ inv))
+pub turn_is : (xs : List Body) (b : ℕ) → position (of_block b) xs ≡ turn (waited xs) b
+turn_is xs b = position_from-zero (of_block b) xs ∙ turn_searched 0 xs b
 
-pub found_never : (xs : List Body) (i b : ℕ) → length xs ≤ i → Seeks xs b i → None ≡ turn (waited xs) b
-found_never xs i b h inv = sym (at_drop_all (λ zs. turn_from i (waited zs) b) xs i h) ∙ inv
+-- and its value
+pub awaited_is : (xs : List Body) (b : ℕ) → option_map (λ x. x.value) (find (of_block b) xs) ≡ awaited (waited xs) b
+awaited_is [] b = refl
+awaited_is (x ∷ xs) b =
+    elim (of_block b x) as (λ t. option_map (λ (y : Body). y.value) (cond t (Some x) (find (of_block b) xs)) ≡ cond t (Some x.value) (awaited (waited xs) b))
+    [ true ↦ refl | false ↦ awaited_is xs b ]
 
--- the loop of `value_of`
-abbrev pub Reads : List Body → ℕ → ℕ → Type 0
-Reads xs b i = awaited (waited (drop i xs)) b ≡ awaited (waited xs) b
+-- the test of a search for a place
+abbrev pub lies_at : ℕ → Option Place → Bool
+lies_at p None = false
+lies_at p (Some q) = eqb q.0 p
 
-pub awaited_here : (xs : List Body) (i b : ℕ) (x : Body) → i < length xs → (get_or xs i x).block.0 ≡ b → Reads xs b i → Some (get_or xs i x).value ≡ awaited (waited xs) b
-awaited_here xs i b x h e inv =
-    let s = at_drop_more (λ zs. awaited (waited zs) b) xs i x h in
-    let t : awaited (waited (get_or xs i x ∷ drop (i + 1) xs)) b ≡ Some (get_or xs i x).value = cond-true (eqb (get_or xs i x).block.0 b) _ _ (eq-eqb _ _ e) in
-    sym t ∙ (sym s ∙ inv)
+-- a search from the front finds the occupant of a place
+occupant_searched : (i : ℕ) (xs : List (Option Place)) (p : ℕ) → position_from (lies_at p) i xs ≡ occupant_from i (placed xs) p
+occupant_searched i [] p = refl
+occupant_searched i (None ∷ xs) p = ap (λ (n : ℕ). position_from (lies_at p) n xs) (add-one i) ∙ occupant_searched (suc i) xs p
+occupant_searched i (Some q ∷ xs) p =
+    ap (λ (n : ℕ). cond (eqb q.0 p) (Some i) (position_from (lies_at p) n xs)) (add-one i) ∙ ap (cond (eqb q.0 p) (Some i)) (occupant_searched (suc i) xs p)
 
-pub awaited_later : (xs : List Body) (i b : ℕ) (x : Body) → i < length xs → ((get_or xs i x).block.0 ≡ b → ⊥) → Reads xs b i → Reads xs b (i + 1)
-awaited_later xs i b x h e inv =
-    let s = at_drop_more (λ zs. awaited (waited zs) b) xs i x h in
-    let t : awaited (waited (get_or xs i x ∷ drop (i + 1) xs)) b ≡ awaited (waited (drop (i + 1) xs)) b = cond-false (eqb (get_or xs i x).block.0 b) _ _ (ne_eqb _ _ e) in
-    sym t ∙ (sym s ∙ inv)
-
-pub awaited_never : (xs : List Body) (i b : ℕ) → length xs ≤ i → Reads xs b i → None ≡ awaited (waited xs) b
-awaited_never xs i b h inv = sym (at_drop_all (λ zs. awaited (waited zs) b) xs i h) ∙ inv
-
--- the loop of `occupant`
-abbrev pub Scans : List (Option Place) → ℕ → ℕ → Type 0
-Scans xs b i = occupant_from i (placed (drop i xs)) b ≡ occupant_from 0 (placed xs) b
-
-pub held_here : (xs : List (Option Place)) (i b : ℕ) (x : Option Place) (p : Place) → i < length xs → get_or xs i x ≡ Some p → p.0 ≡ b → Scans xs b i → Some i ≡ occupant (placed xs) b
-held_here xs i b x p h o e inv =
-    let s = at_drop_more (λ zs. occupant_from i (placed zs) b) xs i x h in
-    let u = ap (λ z. occupant_from i (placed (z ∷ drop (i + 1) xs)) b) o in
-    let t : occupant_from i (placed (Some p ∷ drop (i + 1) xs)) b ≡ Some i = cond-true (eqb p.0 b) _ _ (eq-eqb _ _ e) in
-    sym t ∙ (sym u ∙ (sym s ∙ inv))
-
-pub held_later : (xs : List (Option Place)) (i b : ℕ) (x : Option Place) (p : Place) → i < length xs → get_or xs i x ≡ Some p → (p.0 ≡ b → ⊥) → Scans xs b i → Scans xs b (i + 1)
-held_later xs i b x p h o e inv =
-    let s = at_drop_more (λ zs. occupant_from i (placed zs) b) xs i x h in
-    let u = ap (λ z. occupant_from i (placed (z ∷ drop (i + 1) xs)) b) o in
-    let t : occupant_from i (placed (Some p ∷ drop (i + 1) xs)) b ≡ occupant_from (suc i) (placed (drop (i + 1) xs)) b = cond-false (eqb p.0 b) _ _ (ne_eqb _ _ e) in
-    ap (λ n. occupant_from n (placed (drop (i + 1) xs)) b) (add-one i) ∙ (sym t ∙ (sym u ∙ (sym s ∙ inv)))
-
-pub held_past : (xs : List (Option Place)) (i b : ℕ) (x : Option Place) → i < length xs → get_or xs i x ≡ None → Scans xs b i → Scans xs b (i + 1)
-held_past xs i b x h o inv =
-    let s = at_drop_more (λ zs. occupant_from i (placed zs) b) xs i x h in
-    let u = ap (λ z. occupant_from i (placed (z ∷ drop (i + 1) xs)) b) o in
-    ap (λ n. occupant_from n (placed (drop (i + 1) xs)) b) (add-one i) ∙ (sym u ∙ (sym s ∙ inv))
-
-pub held_never : (xs : List (Option Place)) (i b : ℕ) → length xs ≤ i → Scans xs b i → None ≡ occupant (placed xs) b
-held_never xs i b h inv = sym (at_drop_all (λ zs. occupant_from i (placed zs) b) xs i h) ∙ inv
-
-pub first_is : (xs : List Body) (x : Body) → 0 < length xs → x ≡ get_or xs 0 x → Some (entry_of x) ≡ first_in (waited xs)
-first_is [] x h e = absurd (omega arith)
-first_is (y ∷ xs) x h e = ap (λ (z : Body). Some (entry_of z)) e
-
-pub rest_is : (xs ys : List Body) → ys ≡ drop 1 xs → waited ys ≡ drop 1 (waited xs)
-rest_is xs ys e = ap waited e ∙ sym (drop-map entry_of 1 xs)
+pub occupant_is : (xs : List (Option Place)) (p : ℕ) → position (lies_at p) xs ≡ occupant (placed xs) p
+occupant_is xs p = position_from-zero (lies_at p) xs ∙ occupant_searched 0 xs p
 
 pub unaltered : (j : ℕ) (ws : List (ℕ × Bytes)) (b : ℕ) (v : Bytes) → turn_from j ws b ≡ None → altered ws b v ≡ ws
 unaltered j [] b v e = refl
@@ -112,6 +77,22 @@ unaltered j (w ∷ ws) b v e =
     (elim (eqb w.0 b) as (λ t. cond t (Some j) (turn_from (suc j) ws b) ≡ None → cond t ((b, v) ∷ ws) (w ∷ altered ws b v) ≡ w ∷ ws)
     [ true ↦ (λ h. absurd (let z : ◌≡◌ {A = ℕ} 0 1 = cc in omega arith)) | false ↦ (λ h. ap (λ z. w ∷ z) (unaltered (suc j) ws b v h)) ]) e
 
-pub named_at : (xs : List Body) (i : ℕ) (b : Block) (r : Option (MutBor Body)) → i < length xs → (get_or (waited xs) i (0, [])).0 ≡ b.0 → IfSome r (λ x. x.now ≡ get_or xs i x.now) → IfSome r (λ x. x.now.block ≡ b)
-named_at xs i b None h e f = tt
-named_at xs i b (Some x) h e f = ap (λ s. s.block) f ∙ ap (λ n. record { 0 = n }) (ap (λ p. p.0) (sym (get_or-map entry_of xs i x.now (0, []) h)) ∙ e)
+-- the slot of a block that waits, changed
+module _ (xs : List Body) (ws : List (ℕ × Bytes)) (b i : ℕ) (x : Body) (is : waited xs ≡ ws) (at : Some i ≡ turn ws b) (read : x ≡ get_or xs i x) where
+  found : Found (waited xs) b i
+  found = present_at (waited xs) b i (ap (λ z. turn z b) is ∙ sym at)
+
+  entry : get_or (waited xs) i (0, []) ≡ entry_of x
+  entry =
+      let l = length-map xs entry_of in
+      let w = found.within in
+      get_or-map entry_of xs i x (0, []) (omega arith) ∙ ap entry_of (sym read)
+
+  pub slot_value : (old : Bytes) → old ≡ x.value → Some old ≡ awaited ws b
+  slot_value old e = ap Some (e ∙ ap (λ w. w.1) (sym entry)) ∙ (sym found.value ∙ ap (λ z. awaited z b) is)
+
+  pub slot_change : (v w : Bytes) → v ≡ w → waited (set xs i (record { block = x.block; value = v })) ≡ altered ws b w
+  slot_change v w e =
+      map-set entry_of xs i (record { block = x.block; value = v })
+      ∙ (ap (λ (n : ℕ). set (waited xs) i (n, v)) (ap (λ u. u.0) (sym entry) ∙ found.names)
+      ∙ (ap (λ z. set (waited xs) i (b, z)) e ∙ (sym (found.change w) ∙ ap (λ z. altered z b w) is)))

@@ -1,5 +1,6 @@
-ghost use Rattle.std.specs.Prelude.{◌≡◌, ℕ, length, replicate, IfOk, None, slice_index_or};
+ghost use Rattle.std.specs.Prelude.{◌≡◌, ℕ, ◌^◌, ◌<◌, length, replicate, IfOk, None, true, slice_index_or};
 ghost use Rattle.machine.specs.Machine.{occupant};
+ghost use Rattle.tables.specs.Apart.{apart};
 ghost use Rattle.tables.specs.Settled.{settle_told};
 ghost use Rattle.tables.specs.Views.{placed, place_of, block_of, noted, settle_of};
 
@@ -24,7 +25,7 @@ pub enum SettleFault {
 impl PositionMap {
     /// A map in which no block has landed.
     pub fn new(heap: Global, blocks: u32) -> Result<PositionMap, AllocError>
-        ensures { IfOk result (λ m. placed m.places.items ≡ replicate blocks None) }
+        ensures { IfOk result (λ m. m ≡ replicate blocks None) }
     {
         let places = vec![in heap; None; blocks as usize]?;
         let occupants = vec![in heap; None; MOST_PLACES]?;
@@ -33,53 +34,48 @@ impl PositionMap {
 
     /// How many blocks there are.
     pub fn blocks(&self) -> u32
-        ensures { result ≡ length (placed self.now.places.items) }
+        ensures { result ≡ length self.now }
     {
         self.places.len() as u32
     }
 
+    /// The place of each block, if it has landed, by block.
+    pub fn places(&self) -> &[Option<Place>]
+        ensures by_block { placed result.now ≡ self.now }
+        ensures few { length self.now < 2 ^ 32 }
+        ensures no_two_at_one_place { apart self.now ≡ true }
+    {
+        self.places.as_slice()
+    }
+
     /// The place of a block, if it has landed.
     pub fn lookup(&self, block: Block) -> Option<Place>
-        ensures { place_of result ≡ slice_index_or (placed self.now.places.items) block.0 None }
+        ensures { place_of result ≡ slice_index_or self.now block.0 None }
     {
-        let i = block.0 as usize;
-        if i < self.places.len() {
-            self.places[i]
-        } else {
-            None
-        }
+        self.places.get(block.0 as usize).copied().flatten()
     }
 
     /// The block that has a place: one look-up where the index covers the place.
     pub fn occupant(&self, place: Place) -> Option<Block>
-        ensures { block_of result ≡ occupant (placed self.now.places.items) place.0 }
+        ensures { block_of result ≡ occupant self.now place.0 }
     {
-        let p = place.0 as usize;
-        if p < self.occupants.len() {
-            self.occupants[p]
-        } else {
-            self.scan(place)
+        match self.occupants.get(place.0 as usize) {
+            Some(entry) => *entry,
+            None => self.scan(place),
         }
     }
 
     // The same for any place, found among the blocks one by one.
     fn scan(&self, place: Place) -> Option<Block>
-        ensures { block_of result ≡ occupant (placed self.now.places.items) place.0 }
+        ensures { block_of result ≡ occupant self.now place.0 }
     {
-        let places = self.places.as_slice();
-        for (i, entry) in places.iter().enumerate() {
-            if let Some(p) = entry {
-                if p.0 == place.0 {
-                    return Some(Block(i as u32));
-                }
-            }
-        }
-        None
+        let i = self.places.iter().position(|p| *p == Some(place))?;
+        Some(Block(i as u32))
     }
 
     /// Gives a block a place that nobody has; its former place becomes vacant.
     pub fn settle(&mut self, block: Block, place: Place) -> Result<(), SettleFault>
-        ensures { (settle_told result, placed self.new.places.items) ≡ settle_of (placed self.old.places.items) block.0 place.0 }
+        ensures { (settle_told result, self.new) ≡ settle_of self.old block.0 place.0 }
     {
         let i = block.0 as usize;
         if i >= self.places.len() {

@@ -1,13 +1,9 @@
 -- The words of a keyed tape, one by one.
-use Rattle.std.proofs.Common.{◌≡◌, ℕ, zero, suc, ◌+◌, ◌-◌, ◌/◌, ◌%◌, ◌<◌, List, ◌∷◌, length, get_or, Ok, Result, sym, refl, ap, ◌∙◌, add-one, arith}
+use Rattle.std.proofs.Common.{◌≡◌, ℕ, suc, ◌+◌, ◌-◌, ◌/◌, ◌%◌, ◌<◌, List, ◌∷◌, get_or, Ok, Result, sym, ap, ◌∙◌, add-one, arith}
 use Rattle.layout.specs.Numbers.{Bytes}
 use Rattle.denial.specs.Denials.{Denial}
 use Rattle.tape.specs.Tapes.{draw_of}
 use Rattle.tape.specs.Keyed.{tape_block, tape_word, keyed_words}
-
-pub length_keyed : (key nonce : Bytes) (i n : ℕ) → length (keyed_words key nonce i n) ≡ n
-length_keyed key nonce i zero = refl
-length_keyed key nonce i (suc n) = ap suc (length_keyed key nonce (suc i) n)
 
 -- the words from i on, of n in all: word i, then those from i + 1 on
 pub keyed_first : (key nonce : Bytes) (i n : ℕ) → i < n

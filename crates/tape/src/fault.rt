@@ -1,7 +1,6 @@
 ghost use Rattle.tape.specs.Faults.{tape_denial};
 
-use denial::{Fault, Layer};
-use layout::names::Place;
+use denial::{Fault, Layer, Row};
 
 /// Why a tape denies.
 #[derive(Clone, Copy, PartialEq, Eq, Debug)]
@@ -13,17 +12,14 @@ pub enum TapeFault {
 impl Fault for TapeFault {
     ghost denial = { tape_denial };
 
-    fn number(&self) -> u32 {
+    // The numbers are the table's, which people and scripts read.
+    fn row(&self) -> Row {
         match self {
-            TapeFault::Spent => 13,
+            TapeFault::Spent => Row {
+                number: 13,
+                layer: Layer::Tape,
+                place: None,
+            },
         }
-    }
-
-    fn layer(&self) -> Layer {
-        Layer::Tape
-    }
-
-    fn place(&self) -> Option<Place> {
-        None
     }
 }

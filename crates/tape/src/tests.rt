@@ -2,6 +2,7 @@ use crate::keyed::KeyedTape;
 use crate::tape::Tape;
 use crate::words::WordTape;
 use denial::{Fault, Layer};
+use std::array;
 use std::process::Abort;
 use std::test::Fail;
 
@@ -25,12 +26,7 @@ fn gives_then_is_spent<T: Tape>(rt: &impl Abort, tape: &mut T, words: &[u32]) ->
 fn both_tapes_give_their_words(rt: HostRuntime) -> Result<(), Fail> {
     gives_then_is_spent(&rt, &mut WordTape::new(&[3, 1, 4]), &[3, 1, 4])?;
     // the key, the nonce and the block with block counter 1 of RFC 8439, section 2.3.2
-    let mut key = [0; 32];
-    let mut next = 0u8;
-    for byte in key.iter_mut() {
-        *byte = next;
-        next = next.wrapping_add(1);
-    }
+    let key = array::from_fn(|i| i as u8);
     let mut tape = KeyedTape::new(key, [0, 0, 0, 9, 0, 0, 0, 0x4a, 0, 0, 0, 0], 19);
     for _ in 0..16 {
         assert!(rt; tape.draw().is_ok());

@@ -1,4 +1,5 @@
 use card::byte::ByteCard;
+use engine::state::Ends;
 use lines::asked::{Asked, AskedMaking};
 use lines::reply::{Made, Numbers, Reply};
 use runs::calls::{Call, Making};
@@ -15,9 +16,12 @@ pub(crate) fn try_out(
     making: Making<'_>,
     calls: &[Call<'_>],
 ) -> anyhow::Result<()> {
-    let card = ByteCard::new(image);
-    let tape = WordTape::new(words);
-    let Ran { store, transcript } = run(rt.alloc(), card, BenchSeal, tape, &making, calls);
+    let ends = Ends {
+        card: ByteCard::new(image),
+        seal: BenchSeal,
+        tape: WordTape::new(words),
+    };
+    let Ran { store, transcript } = run(rt.alloc(), ends, &making, calls);
     let asked = AskedMaking(making);
     let made = Made(store.answer());
     drop(store);
@@ -31,17 +35,16 @@ pub(crate) fn try_making(
     image: &mut [u8],
     making: Making<'_>,
 ) -> anyhow::Result<()> {
-    let none = Vec::new(rt.alloc());
-    try_out(rt, image, &[], making, none.as_slice())
+    try_out(rt, image, &[], making, &[])
 }
 
 fn show(rt: &HostRuntime, calls: &[Call<'_>], transcript: &Transcript) -> anyhow::Result<()> {
-    for (call, answer) in calls.iter().zip(transcript.answers.iter()) {
+    for (call, answer) in calls.iter().zip(transcript.notes.answers.iter()) {
         let asked = Asked(*call);
         let reply = Reply(answer);
         println!(rt; "  {asked}: {reply}")?;
     }
-    for face in transcript.faces.iter() {
+    for face in transcript.notes.faces.iter() {
         let numbers = Numbers(face.as_slice());
         println!(rt; "  face after a beat:{numbers}")?;
     }

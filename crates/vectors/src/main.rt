@@ -1,7 +1,6 @@
 //! Holds the cipher to published vectors, one a line of the input.
 #![tactic(auto)]
 
-mod hex;
 mod published;
 
 use anyhow::anyhow;
@@ -9,7 +8,7 @@ use published::Vector;
 use std::io;
 
 /// How many vectors of a kind were read, and how many agree.
-#[derive(Clone, Copy)]
+#[derive(Clone, Copy, Default)]
 struct Tally {
     agreeing: u64,
     read: u64,
@@ -29,7 +28,7 @@ impl Tally {
 }
 
 /// What was read so far, by kind.
-#[derive(Clone, Copy)]
+#[derive(Clone, Copy, Default)]
 struct Report {
     blocks: Tally,
     tags: Tally,
@@ -66,19 +65,11 @@ impl Report {
 fn run(rt: &HostRuntime) -> anyhow::Result<()> {
     let heap = rt.alloc();
     let text = io::read_to_string(heap, rt.stdin())?;
-    let none = Tally {
-        agreeing: 0,
-        read: 0,
-    };
-    let mut report = Report {
-        blocks: none,
-        tags: none,
-    };
-    for (i, line) in text.as_str().lines().enumerate() {
+    let mut report = Report::default();
+    for (line, number) in text.as_str().lines().zip(1usize..) {
         if line.is_empty() || line.starts_with('#') {
             continue;
         }
-        let number = i.saturating_add(1);
         let vector = match Vector::read(heap, line) {
             Ok(vector) => vector,
             Err(fault) => return Err(anyhow!(format!(in heap; "line {number}: {fault}")?)),

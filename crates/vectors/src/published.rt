@@ -2,50 +2,25 @@
 ghost use Rattle.std.specs.Prelude.{Decides};
 ghost use Rattle.vectors.specs.Agreement.{BlockAgrees, TagAgrees, Agrees};
 
-use crate::hex;
 use cipher::chacha20::chacha20_block;
 use cipher::siphash::siphash24;
-use std::alloc::{AllocError, AllocFailed, Global};
-use std::fmt;
+use hex::{FromHex, FromHexError};
+use std::alloc::{AllocError, Global};
+use thiserror::Error;
 
 /// Why a line is no vector.
-#[derive(Debug, Drop)]
+#[derive(Debug, Drop, Error)]
 pub(crate) enum LineFault {
-    Memory,
+    #[error("no memory is left")]
+    Memory(#[from(alloc)] AllocError),
+    #[error("expected chacha20 KEY COUNTER NONCE BLOCK or siphash KEY MESSAGE TAG")]
     Fields,
+    #[error("the block counter is no number below 2^32")]
     Counter,
+    #[error("the {0} is not in hexadecimal")]
     NotHex(&'static str),
+    #[error("the {0} is not {1} bytes in hexadecimal")]
     NotBytes(&'static str, usize),
-}
-
-impl From<AllocError> for LineFault {
-    fn from(_e: AllocError) -> LineFault {
-        LineFault::Memory
-    }
-}
-
-impl<T: Drop> From<AllocFailed<T>> for LineFault {
-    fn from(_e: AllocFailed<T>) -> LineFault {
-        LineFault::Memory
-    }
-}
-
-impl fmt::Display for LineFault {
-    fn fmt<W: fmt::Write>(&self, f: &mut fmt::Formatter<W>) -> fmt::Result {
-        match self {
-            LineFault::Memory => write!(f, "no memory is left"),
-            LineFault::Fields => write!(
-                f,
-                "expected chacha20 KEY COUNTER NONCE BLOCK or siphash KEY MESSAGE TAG"
-            ),
-            LineFault::Counter => write!(f, "the block counter is no number below 2^32"),
-            LineFault::NotHex(field) => write!(f, "the {field} is not in hexadecimal"),
-            LineFault::NotBytes(field, count) => write!(
-                f,
-                "the {field} is not {count} bytes in hexadecimal"
-            ),
-        }
-    }
 }
 
 #[derive(Drop)]
@@ -70,7 +45,7 @@ pub(crate) enum Vector {
 }
 
 fn sized<const N: usize>(text: &str, field: &'static str) -> Result<[u8; N], LineFault> {
-    hex::array::<N>(text).ok_or(LineFault::NotBytes(field, N))
+    <[u8; N]>::from_hex(text).map_err(|_| LineFault::NotBytes(field, N))
 }
 
 impl BlockVector {
@@ -96,8 +71,10 @@ impl BlockVector {
 impl TagVector {
     fn read(heap: Global, key: &str, message: &str, tag: &str) -> Result<TagVector, LineFault> {
         let digits = if message == "-" { "" } else { message };
-        let Some(message) = hex::bytes(heap, digits)? else {
-            return Err(LineFault::NotHex("message"));
+        let message = match hex::decode(heap, digits) {
+            Ok(message) => message,
+            Err(FromHexError::OutOfMemory) => return Err(LineFault::Memory(AllocError)),
+            Err(_) => return Err(LineFault::NotHex("message")),
         };
         let key = sized::<16>(key, "key")?;
         let tag = u64::from_le_bytes(sized::<8>(tag, "tag")?);

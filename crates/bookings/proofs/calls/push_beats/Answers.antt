@@ -1,20 +1,13 @@
-use Rattle.std.proofs.Common.{◌≡◌, List, ◌++◌, map, replicate, vec_items, sym, refl, ap, ◌∙◌, arith}
-use Rattle.std.proofs.lemmas.List.{append-nil, replicate_more}
-use Rattle.machine.specs.Machine.{Call, Beat}
+use Rattle.std.proofs.Common.{◌≡◌, map, ap, sym, ◌∙◌}
+use Rattle.std.proofs.lemmas.List.{map-id}
+use Rattle.std.proofs.lemmas.Iterator.Consumers.{YieldsList-at}
+use Rattle.std.proofs.lemmas.Iterator.Adapters.{fact_from_extend, YieldsList-from_repeat_n}
 use Rattle.runs.specs.Told.{call_told}
-use Rattle.bookings.proofs.Adding.{pushed}
+use Rattle.bookings.proofs.Adding.{added, map_replicate}
 use Rattle.bookings.proofs.calls.push_beats.Goals as goal
-
-pub loop-beat-init : goal.loop-beat-init
-loop-beat-init c = sym (append-nil _)
-
-pub loop-beat-preserved : goal.loop-beat-preserved
-loop-beat-preserved c =
-    let begun = map call_told (vec_items c.args.calls.now) in
-    pushed call_told begun _ _ _ _ Beat c.in_ok-push.ensures.items refl c.loop-beat.invariant
-    ∙ ap (λ (more : List Call). begun ++ more) (replicate_more c.loop-beat._beat Beat)
 
 pub returns : goal.returns
 returns c =
-    let e : c.loop-beat._beat ≡ c.args.count = omega arith in
-    c.loop-beat.invariant ∙ ap (λ n. map call_told (vec_items c.args.calls.now) ++ replicate n Beat) e
+    fact_from_extend (λ y. y) c.extend.result c.extend.ensures.ran
+    (λ it same. YieldsList-at same (YieldsList-from_repeat_n (λ x y. y ≡ x) c.args.count _ c.repeat_n.ensures.count c.repeat_n.ensures.item (λ y e. e)))
+    (λ xs all gives. added call_told _ _ _ _ gives.0 (ap (map call_told) (sym (map-id xs) ∙ all) ∙ map_replicate call_told c.args.count _))

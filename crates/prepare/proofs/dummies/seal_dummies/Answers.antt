@@ -1,5 +1,5 @@
-use Rattle.std.proofs.Common.{◌≡◌, ◌<◌, length, refl, ap, ◌∙◌, arith}
-use Rattle.prepare.proofs.Halves.{length_half, half_all, half_put, put_granted_here}
+use Rattle.std.proofs.Common.{◌≡◌, ◌<◌, length, ap, ◌∙◌, arith}
+use Rattle.prepare.proofs.Halves.{length_half, half_put, put_granted_here}
 use Rattle.prepare.proofs.dummies.seal_dummies.Goals as goal
 
 pub returns-in_err-put : goal.returns-in_err-put
@@ -20,9 +20,3 @@ loop-i-preserved g c =
       half_put rules rs _ _ c.loop-i.i c.dummy.result.block.0 c.to_bytes-body.result _ _ c.dummy.result.value c.loop-i.invariant.1 lt
           c.to_bytes-body.ensures.laid_out c.dummy.ensures.0 c.dummy.ensures.1 c.in_ok-seal.ensures c.in_ok-put.ensures,
     )
-
-pub returns : goal.returns
-returns g c =
-    let rules = g.S.Seal.rules c.args.seal.now in
-    let rs = g.C.Card.records c.args.card.now in
-    record { granted = refl; card = c.loop-i.invariant.1 ∙ half_all rules rs c.loop-i.i (omega arith) }

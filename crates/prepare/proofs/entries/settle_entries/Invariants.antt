@@ -1,8 +1,7 @@
-use Rattle.std.proofs.Common.{vec_items}
 use Rattle.machine.specs.Files.{file_blocks, entries}
-use Rattle.tables.specs.Views.{placed}
+use Rattle.mapfile.specs.Listed.{entries_left}
 use Rattle.prepare.proofs.Rising.{Going}
 use Rattle.prepare.proofs.entries.settle_entries.Given as goal
 
-abbrev pub invariant-loop-i : goal.invariant-loop-i
-invariant-loop-i l = Going (file_blocks l.file.bytes.now) l.count (entries l.file.bytes.now) l.i l.from (placed (vec_items l.map.places))
+abbrev pub invariant-loop-block : goal.invariant-loop-block
+invariant-loop-block l = Going (file_blocks l.file) l.count (entries l.file) (entries_left l.block-iterator) l.from l.map

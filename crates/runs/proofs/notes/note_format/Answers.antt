@@ -1,5 +1,5 @@
 use Rattle.std.proofs.Common.{◌+◌, List, [], ◌∷◌, ◌++◌, map, sym, ap, ◌∙◌, arith}
-use Rattle.std.proofs.lemmas.List.{map_push, take_all}
+use Rattle.std.proofs.lemmas.List.{map_push}
 use Rattle.machine.specs.Runs as law
 use Rattle.machine.specs.Runs.{format_sealings}
 use Rattle.runs.specs.Shown.{sealing_told}
@@ -11,7 +11,3 @@ loop-i-preserved c = λ card h.
     ap (map sealing_told) c.in_ok-push.ensures.items ∙ (map_push sealing_told c.loop-i.sealings.items _
     ∙ (ap (λ (xs : List law.Sealing). xs ++ record { place = c.loop-i.i; counter = c.loop-i.i + 1 } ∷ []) (c.loop-i.invariant card (omega arith))
     ∙ sym (format_sealings_more c.loop-i.i card h)))
-
-pub returns : goal.returns
-returns c = λ card h.
-    c.loop-i.invariant card (omega arith) ∙ ap (format_sealings 0) (take_all c.loop-i.i card (omega arith))

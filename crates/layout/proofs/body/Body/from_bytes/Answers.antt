@@ -2,14 +2,14 @@ use Rattle.std.proofs.Common.{ℕ, ◌≤◌, ◌++◌, length, take, drop, ap, 
 use Rattle.std.proofs.lemmas.List.{take_all, length-drop}
 use Rattle.layout.specs.Numbers.{Bytes, little, number}
 use Rattle.layout.specs.Layouts.{body_of, block_in, value_in}
-use Rattle.layout.proofs.Pieces.{number_first_four, little_first_four}
+use Rattle.layout.proofs.Pieces.{little_first_four}
 use Rattle.layout.proofs.body.Body.from_bytes.Goals as goal
 
 pub returns : goal.returns
 unfolding body_of block_in value_in
 returns c =
     let bs : Bytes = c.args.bytes.now in
-    let block = c.from_le_bytes.ensures ∙ number_first_four bs (omega arith) in
+    let block = c.first_number.ensures in
     let l : length (drop 4 bs) ≤ 48 = simp length-drop (omega arith) in
     let value = c.copy_from_slice.ensures.after ∙ take_all 48 (drop 4 bs) l in
     record {

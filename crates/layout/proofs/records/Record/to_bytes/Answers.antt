@@ -1,6 +1,6 @@
-use Rattle.std.proofs.Common.{◌≡◌, ℕ, ◌++◌, length, replicate, sym, ap, ◌∙◌, subst, arith, rules}
+use Rattle.std.proofs.Common.{◌≡◌, ℕ, ◌++◌, length, replicate, sym, ap, ◌∙◌, subst, arith}
 use borrow.Rule.Slice.PartMut.{put_mid}
-use Rattle.std.proofs.lemmas.List.{append_assoc, length-append, places}
+use Rattle.std.proofs.lemmas.List.{append_assoc, length-append}
 use Rattle.layout.specs.Numbers.{Bytes, little}
 use Rattle.layout.specs.Layouts.{record_of, RecordApart}
 use Rattle.layout.proofs.Littles.{little_four}
@@ -26,6 +26,3 @@ returns c =
     c.copy_from_slice-2.ensures.after c.copy_from_slice-3.ensures.after (omega arith) (ap length c.copy_from_slice-2.ensures.after ∙ omega arith) in
     let P : Bytes → Type 0 = λ u. RecordApart n s t u in
     record { laid_out = e; comes_apart_again = subst P (sym e) (record_apart n s t (omega arith) (omega arith) (omega arith)) }
-
-pub slice_bounds-bytes-end-3 : goal.slice_bounds-bytes-end-3
-slice_bounds-bytes-end-3 c = search (rules, places)

@@ -1,12 +1,9 @@
-use Rattle.std.proofs.Common.{refl, ap, inl, inr, ⊎_elim}
-use Rattle.machine.specs.Makings.{Shut}
+use Rattle.machine.specs.Makings.{resume}
+use Rattle.store.proofs.Assembled.{made_by}
 use Rattle.store.proofs.state.Store.resume.Goals as goal
 
-pub returns-in-Ok : goal.returns-in-Ok
-returns-in-Ok g c = record { made = inl (c.in-Ok.ensures (g.T.Tape.words c.args.tape)); seal = refl }
-
-pub returns-in-Err : goal.returns-in-Err
-returns-in-Err g c =
-    let card = g.C.Card.records c.args.card in
-    let tape = g.T.Tape.words c.args.tape in
-    record { made = ⊎_elim (λ h. inl (h tape)) (λ e. inr (ap (λ r. Shut r card tape) e.0, e.1 tape)) c.in-Err.ensures.1; seal = refl }
+pub returns-clause-made : goal.returns-clause-made
+returns-clause-made g c =
+    let card = g.C.Card.records c.args.ends.card in
+    rw c.assemble.ensures.store (made_by (λ tape. resume (g.S.Seal.rules c.args.ends.seal) card tape c.args.file.now) card card (g.T.Tape.words c.args.ends.tape)
+    c.prepare_resume-prepared.result c.prepare_resume-prepared.ensures)

@@ -1,22 +1,25 @@
-use Rattle.std.proofs.Common.{None, ap, ◌∙◌}
+use Rattle.std.proofs.Common.{◌≡◌, vec_items, ap, sym, ◌∙◌, Some, None, rules}
+use borrow.Author.Tests.{tests}
+use Rattle.std.specs.List.{position}
+use Rattle.std.proofs.lemmas.Iterator.{YieldsList-from_slice}
+use Rattle.std.proofs.lemmas.Iterator.Search.{position_from_yields_List}
 use Rattle.machine.specs.Machine.{occupant}
-use Rattle.tables.specs.Views.{placed}
-use Rattle.tables.proofs.Turns.{held_here, held_later, held_past, held_never}
+use Rattle.tables.specs.Views.{block_of}
+use Rattle.tables.proofs.Turns.{lies_at, occupant_is}
 use Rattle.tables.proofs.positions.table.PositionMap.scan.Goals as goal
-use Rattle.tables.proofs.positions.table.PositionMap.scan.Goals.{in-Some+else-p-place, in_default}
 
-pub returns-then-p-place : goal.returns-then-p-place
-returns-then-p-place c =
-    held_here _ _ _ None c.in-Some.p c.loop-i-test.true c.in-Some.is c.if-p-place.true c.loop-i.invariant
-    ∙ ap (λ z. occupant (placed z) c.args.place.0) c.as_slice-places.ensures.value
-
-pub loop-i-preserved : goal.loop-i-preserved
-loop-i-preserved c =
-    elim c.match-entry.branch [
-      | in-Some+else-p-place w ↦ held_later _ _ _ None w.in-Some.p c.loop-i-test.true w.in-Some.is w.if-p-place.false c.loop-i.invariant
-      | in_default w ↦ held_past _ _ _ None c.loop-i-test.true w.in_default.is c.loop-i.invariant
-    ]
+pub returns-in_err-i : goal.returns-in_err-i
+returns-in_err-i c =
+    let places = vec_items c.self.inside.places in
+    let e : c.position.result ≡ position (lies_at c.args.place.0) places =
+    position_from_yields_List (lies_at c.args.place.0) _ _ c.position.result c.position.ensures.ran (YieldsList-from_slice places (cc)) (λ x b q k. search (rules, tests)) in
+    let none : c.position.result ≡ None = cc in
+    ap block_of c.from_residual.ensures ∙ (sym none ∙ (e ∙ (occupant_is places c.args.place.0 ∙ ap (λ ps. occupant ps c.args.place.0) c.self.view_is)))
 
 pub returns : goal.returns
 returns c =
-    held_never _ _ _ c.loop-i-test.false c.loop-i.invariant ∙ ap (λ z. occupant (placed z) c.args.place.0) c.as_slice-places.ensures.value
+    let places = vec_items c.self.inside.places in
+    let e : c.position.result ≡ position (lies_at c.args.place.0) places =
+    position_from_yields_List (lies_at c.args.place.0) _ _ c.position.result c.position.ensures.ran (YieldsList-from_slice places (cc)) (λ x b q k. search (rules, tests)) in
+    let some : c.position.result ≡ Some c.in_ok-i.i = cc in
+    sym some ∙ (e ∙ (occupant_is places c.args.place.0 ∙ ap (λ ps. occupant ps c.args.place.0) c.self.view_is))
