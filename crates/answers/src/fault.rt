@@ -1,6 +1,6 @@
 ghost use Rattle.answers.specs.Told.{store_denial};
 
-use denial::{Fault, Layer, Row};
+use denial::{Layer, Row, Tabled};
 use layout::names::Place;
 use seal::fault::SealFault;
 
@@ -35,11 +35,11 @@ pub enum StoreFault {
     CounterSpent,
 }
 
-impl Fault for StoreFault {
-    ghost denial = { store_denial };
+impl Tabled for StoreFault {
+    ghost entry = { store_denial };
 
     // The numbers are the table's, which people and scripts read.
-    fn row(&self) -> Row {
+    fn table_row(&self) -> Row {
         let (number, place) = match self {
             StoreFault::FileLength => (1, None),
             StoreFault::BlockCount => (2, None),

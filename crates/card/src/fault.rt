@@ -1,6 +1,6 @@
 ghost use Rattle.card.specs.Faults.{card_denial};
 
-use denial::{Fault, Layer, Row};
+use denial::{Layer, Row, Tabled};
 use layout::names::Place;
 
 /// Why a card denies.
@@ -12,11 +12,11 @@ pub enum CardFault {
     Size,
 }
 
-impl Fault for CardFault {
-    ghost denial = { card_denial };
+impl Tabled for CardFault {
+    ghost entry = { card_denial };
 
     // The numbers are the table's, which people and scripts read.
-    fn row(&self) -> Row {
+    fn table_row(&self) -> Row {
         let (number, place) = match self {
             CardFault::Beyond(place) => (15, Some(*place)),
             CardFault::Size => (16, None),

@@ -55,25 +55,51 @@ impl fmt::Display for Row {
 pub trait Fault {
     ghost denial: { Self → Denial };
 
-    fn row(&self) -> Row
-        ensures { row_told result ≡ denial self.now };
+    fn number(&self) -> u32
+        ensures { result ≡ (denial self.now).number };
 
-    final fn number(&self) -> u32
-        ensures { result ≡ (denial self.now).number }
-    {
-        self.row().number
-    }
-
-    final fn layer(&self) -> Layer
-        ensures { result ≡ (denial self.now).layer }
-    {
-        self.row().layer
-    }
+    fn layer(&self) -> Layer
+        ensures { result ≡ (denial self.now).layer };
 
     /// The place, where the denial names one.
-    final fn place(&self) -> Option<Place>
-        ensures { option_map place_number result ≡ (denial self.now).place }
+    fn place(&self) -> Option<Place>
+        ensures { option_map place_number result ≡ (denial self.now).place };
+
+    fn row(&self) -> Row
+        ensures { row_told result ≡ denial self.now }
     {
-        self.row().place
+        Row {
+            number: self.number(),
+            layer: self.layer(),
+            place: self.place(),
+        }
+    }
+}
+
+/// A fault whose row is written down whole, once; number, layer and place are its parts.
+pub trait Tabled {
+    ghost entry: { Self → Denial };
+
+    fn table_row(&self) -> Row
+        ensures { row_told result ≡ entry self.now };
+}
+
+impl<F: Tabled> Fault for F {
+    ghost denial = { λ f. F.Tabled.entry f };
+
+    fn number(&self) -> u32 {
+        self.table_row().number
+    }
+
+    fn layer(&self) -> Layer {
+        self.table_row().layer
+    }
+
+    fn place(&self) -> Option<Place> {
+        self.table_row().place
+    }
+
+    fn row(&self) -> Row {
+        self.table_row()
     }
 }

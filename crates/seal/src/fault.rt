@@ -1,6 +1,6 @@
 ghost use Rattle.seal.specs.Faults.{seal_denial};
 
-use denial::{Fault, Layer, Row};
+use denial::{Layer, Row, Tabled};
 use layout::names::Place;
 
 /// Why a seal denies.
@@ -12,11 +12,11 @@ pub enum SealFault {
     Tag(Place),
 }
 
-impl Fault for SealFault {
-    ghost denial = { seal_denial };
+impl Tabled for SealFault {
+    ghost entry = { seal_denial };
 
     // The numbers are the table's, which people and scripts read.
-    fn row(&self) -> Row {
+    fn table_row(&self) -> Row {
         let (number, place) = match self {
             SealFault::Size => (16, None),
             SealFault::Tag(place) => (17, Some(*place)),

@@ -1,6 +1,6 @@
 ghost use Rattle.tape.specs.Faults.{tape_denial};
 
-use denial::{Fault, Layer, Row};
+use denial::{Layer, Row, Tabled};
 
 /// Why a tape denies.
 #[derive(Clone, Copy, PartialEq, Eq, Debug)]
@@ -9,11 +9,11 @@ pub enum TapeFault {
     Spent,
 }
 
-impl Fault for TapeFault {
-    ghost denial = { tape_denial };
+impl Tabled for TapeFault {
+    ghost entry = { tape_denial };
 
     // The numbers are the table's, which people and scripts read.
-    fn row(&self) -> Row {
+    fn table_row(&self) -> Row {
         match self {
             TapeFault::Spent => Row {
                 number: 13,
