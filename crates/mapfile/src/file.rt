@@ -1,41 +1,28 @@
 //! A map file as it is read: the sizes, the last counter, and the landed blocks with their places.
-ghost use Rattle.std.specs.Prelude.{◌≡◌, ◌+◌, ◌<◌, ◌≤◌, take, drop, length};
+ghost use Rattle.std.specs.Prelude.{◌≡◌, ◌+◌, ◌*◌, ◌<◌, ◌≤◌, take, drop, length};
+ghost use Rattle.std.specs.Option.{option_map};
 ghost use Rattle.std.specs.List.{AllByRecursion};
+ghost use Rattle.std.proofs.Props.{props};
 ghost use Rattle.layout.specs.Numbers.{number};
 ghost use Rattle.machine.specs.Files.{file_blocks, file_count, file_landed, file_last, entries};
 ghost use Rattle.mapfile.specs.Listed.{entries_left};
 ghost use Rattle.mapfile.specs.Reads.{parse_of};
 
 use crate::entries::{Entries, number};
-use std::marker::Model;
 
 /// The bytes of a map file, as many as its header says.
-#[derive(Clone, Drop)]
+#[derive(Clone, Copy)]
 pub struct MapFile<'a> {
     bytes: &'a [u8],
-}
-
-impl<'a> Model for MapFile<'a> {
-    ghost use Rattle.std.specs.Prelude.{◌≡◌, ◌+◌, ◌*◌, ◌<◌, ◌≤◌, length};
-    ghost use Rattle.std.specs.List.{AllByRecursion};
-    ghost use Rattle.layout.specs.Numbers.{Bytes};
-    ghost use Rattle.machine.specs.Files.{file_landed};
-
-    ghost Value = { Bytes };
-
-    ghost view = { λ f. f.bytes.now };
-
-    ghost invariant = { λ f. record {
-      header : 10 ≤ length f.bytes.now;
-      in_bytes : AllByRecursion (λ b. b < 256) f.bytes.now;
-      as_long_as_it_says : length f.bytes.now ≡ 10 + 4 * file_landed f.bytes.now;
-    } };
+    ghost header: { 10 ≤ length bytes.now },
+    ghost in_bytes: { AllByRecursion (λ b. b < 256) bytes.now } by { Prim.hlevel props },
+    ghost as_long_as_it_says: { length bytes.now ≡ 10 + 4 * file_landed bytes.now },
 }
 
 impl<'a> MapFile<'a> {
     /// The map file that these bytes are, if their number is what their header says.
     pub fn parse(bytes: &'a [u8]) -> Option<MapFile<'a>>
-        ensures { result ≡ parse_of bytes.now }
+        ensures { option_map (λ file. file.bytes.now) result ≡ parse_of bytes.now }
     {
         if bytes.len() < 10 {
             return None;
@@ -49,28 +36,28 @@ impl<'a> MapFile<'a> {
 
     /// How many blocks the store has.
     pub fn blocks(&self) -> u32
-        ensures { result ≡ file_blocks self.now }
+        ensures { result ≡ file_blocks self.now.bytes.now }
     {
         number_at(self.bytes, 0)
     }
 
     /// How many places the card has.
     pub fn count(&self) -> u32
-        ensures { result ≡ file_count self.now }
+        ensures { result ≡ file_count self.now.bytes.now }
     {
         number_at(self.bytes, 2)
     }
 
     /// How many blocks have landed: the number of entries.
     pub fn landed(&self) -> u32
-        ensures { result ≡ file_landed self.now }
+        ensures { result ≡ file_landed self.now.bytes.now }
     {
         number_at(self.bytes, 4)
     }
 
     /// The last counter that was sealed.
     pub fn last(&self) -> u32
-        ensures { result ≡ file_last self.now }
+        ensures { result ≡ file_last self.now.bytes.now }
     {
         let b = self.bytes;
         u32::from_le_bytes([b[6], b[7], b[8], b[9]])
@@ -78,8 +65,8 @@ impl<'a> MapFile<'a> {
 
     /// The entries in file order, each a landed block and its place.
     pub fn entries(&self) -> Entries<'a>
-        ensures in_file_order { entries_left result ≡ entries self.now }
-        ensures in_two_bytes { AllByRecursion (λ e. (e.0 < 65536) × (e.1 < 65536)) (entries self.now) }
+        ensures in_file_order { entries_left result ≡ entries self.now.bytes.now }
+        ensures in_two_bytes { AllByRecursion (λ e. (e.0 < 65536) × (e.1 < 65536)) (entries self.now.bytes.now) }
     {
         let (numbers, _) = self.bytes[10..].as_chunks::<2>();
         // The places stand behind all the blocks.

@@ -22,9 +22,9 @@ pub(crate) fn settle_entries(
     file: &MapFile<'_>,
     count: u32,
 ) -> Result<(), StoreFault>
-    requires { map.old ≡ replicate (file_blocks file.now) None }
-    ensures fit { result ≡ entry_check (entries_fit (file_blocks file.now) count 0 [] (entries file.now)) }
-    ensures places { IfOk result (λ _. map.new ≡ settled (replicate (file_blocks file.now) None) (entries file.now)) }
+    requires { map.old ≡ replicate (file_blocks file.now.bytes.now) None }
+    ensures fit { result ≡ entry_check (entries_fit (file_blocks file.now.bytes.now) count 0 [] (entries file.now.bytes.now)) }
+    ensures places { IfOk result (λ _. map.new ≡ settled (replicate (file_blocks file.now.bytes.now) None) (entries file.now.bytes.now)) }
 {
     let mut from = 0;
     for (block, place) in file.entries() {
@@ -68,8 +68,8 @@ pub(crate) fn check_entries<C: Card, S: Seal>(
     seal: &S,
     file: &MapFile<'_>,
 ) -> Result<(), Denial>
-    requires { entries_fit (file_blocks file.now) (length (C.Card.records card.now)) 0 [] (entries file.now) ≡ true }
-    ensures { by_reason result ≡ opening_check (entries_open (S.Seal.rules seal.now) (C.Card.records card.now) (entries file.now)) }
+    requires { entries_fit (file_blocks file.now.bytes.now) (length (C.Card.records card.now)) 0 [] (entries file.now.bytes.now) ≡ true }
+    ensures { by_reason result ≡ opening_check (entries_open (S.Seal.rules seal.now) (C.Card.records card.now) (entries file.now.bytes.now)) }
 {
     for (block, place) in file.entries() {
         check_entry(card, seal, block, place)?;

@@ -7,13 +7,13 @@ use Rattle.prepare.proofs.entries.settle_entries.Goals as goal
 
 pub loop-block-init : goal.loop-block-init
 loop-block-init c =
-    going_start (file_blocks c.args.file.now) c.args.count (entries c.args.file.now) _ c.args.map.now
+    going_start (file_blocks c.args.file.now.bytes.now) c.args.count (entries c.args.file.now.bytes.now) _ c.args.map.now
     (ap entries_left c.into_iter-block-iterator.ensures.into_iter_gives ∙ c.entries-block-items.ensures.in_file_order) c.requires c.entries-block-items.ensures.in_two_bytes
 
 pub returns-then-is_err-clause-fit : goal.returns-then-is_err-clause-fit
 returns-then-is_err-clause-fit c =
-    let n = file_blocks c.args.file.now in
-    let es = entries c.args.file.now in
+    let n = file_blocks c.args.file.now.bytes.now in
+    let es = entries c.args.file.now.bytes.now in
     let rest = entries_left c.loop-block.block-iterator in
     let no = was_denied c.settle.result c.if-is_err.ensures.value in
     ap entry_check (sym (going_wrong n c.args.count es rest _ c.loop-block.from c.in-Some.block.0 c.in-Some.place.0 _ c.in-Some.ensures.steps c.loop-block.invariant
@@ -21,6 +21,6 @@ returns-then-is_err-clause-fit c =
 
 pub loop-block-preserved : goal.loop-block-preserved
 loop-block-preserved c =
-    going_on (file_blocks c.args.file.now) c.args.count (entries c.args.file.now) (entries_left c.loop-block.block-iterator) _ c.loop-block.from c.in-Some.block.0 c.in-Some.place.0 _ _
+    going_on (file_blocks c.args.file.now.bytes.now) c.args.count (entries c.args.file.now.bytes.now) (entries_left c.loop-block.block-iterator) _ c.loop-block.from c.in-Some.block.0 c.in-Some.place.0 _ _
     c.in-Some.ensures.steps c.loop-block.invariant c.if-block-from.false c.if-place-count.false
     (with_answer _ _ _ _ (was_granted c.settle.result c.if-is_err.ensures.value) c.settle.ensures)

@@ -4,4 +4,4 @@ use Rattle.prepare.proofs.Rising.{Going}
 use Rattle.prepare.proofs.entries.settle_entries.Given as goal
 
 abbrev pub invariant-loop-block : goal.invariant-loop-block
-invariant-loop-block l = Going (file_blocks l.file) l.count (entries l.file) (entries_left l.block-iterator) l.from l.map
+invariant-loop-block l = Going (file_blocks l.file.bytes.now) l.count (entries l.file.bytes.now) (entries_left l.block-iterator) l.from l.map

@@ -75,7 +75,7 @@ returns-in_err-map g c =
     let file = c.args.file.now in
     let p = err_from_is_err_and c.from_residual-in_err-map.result c.from_residual-in_err-map.ensures.1 in
     memory_so rules card file c.from_residual-in_err-map.result p.0 p.1 p.2
-    (fits_so rules card file c.in-Some.file _ _ _ c.in-Some.ensures c.blocks-2.ensures c.count-count.ensures c.in_ok-check_sizes.ensures c.if-count.false c.count.ensures)
+    (fits_so rules card file c.in-Some.file.bytes.now _ _ _ c.in-Some.ensures c.blocks-2.ensures c.count-count.ensures c.in_ok-check_sizes.ensures c.if-count.false c.count.ensures)
 
 pub returns-in_err-waiting : goal.returns-in_err-waiting
 returns-in_err-waiting g c =
@@ -84,7 +84,7 @@ returns-in_err-waiting g c =
     let file = c.args.file.now in
     let p = err_from_is_err_and c.from_residual-in_err-waiting.result c.from_residual-in_err-waiting.ensures.1 in
     memory_so rules card file c.from_residual-in_err-waiting.result p.0 p.1 p.2
-    (fits_so rules card file c.in-Some.file _ _ _ c.in-Some.ensures c.blocks-2.ensures c.count-count.ensures c.in_ok-check_sizes.ensures c.if-count.false c.count.ensures)
+    (fits_so rules card file c.in-Some.file.bytes.now _ _ _ c.in-Some.ensures c.blocks-2.ensures c.count-count.ensures c.in_ok-check_sizes.ensures c.if-count.false c.count.ensures)
 
 pub returns-in_err-settle_entries : goal.returns-in_err-settle_entries
 returns-in_err-settle_entries g c =
@@ -93,7 +93,7 @@ returns-in_err-settle_entries g c =
     let file = c.args.file.now in
     let p = err_from_is_err_and c.from_residual-in_err-settle_entries.result c.from_residual-in_err-settle_entries.ensures.1 in
     shut_so rules card file c.from_residual-in_err-settle_entries.result p.0 (ByStore c.in_err-settle_entries.field-0.0) p.1 p.2
-    (by_entries rules card file c.in-Some.file _ _ _ c.in_err-settle_entries.field-0.0 c.in-Some.ensures c.blocks-2.ensures c.count-count.ensures c.in_ok-check_sizes.ensures
+    (by_entries rules card file c.in-Some.file.bytes.now _ _ _ c.in_err-settle_entries.field-0.0 c.in-Some.ensures c.blocks-2.ensures c.count-count.ensures c.in_ok-check_sizes.ensures
     c.if-count.false c.count.ensures c.in_err-settle_entries.ensures.fit)
 
 pub returns-in_err-check_counters : goal.returns-in_err-check_counters
@@ -103,5 +103,5 @@ returns-in_err-check_counters g c =
     let file = c.args.file.now in
     let p = err_from_is_err_and c.from_residual-in_err-check_counters.result c.from_residual-in_err-check_counters.ensures.1 in
     shut_so rules card file c.from_residual-in_err-check_counters.result p.0 c.in_err-check_counters.field-0.0 p.1 p.2
-    (by_counters rules card file c.in-Some.file _ _ _ _ _ c.in-Some.ensures c.blocks-2.ensures c.count-count.ensures c.in_ok-check_sizes.ensures
+    (by_counters rules card file c.in-Some.file.bytes.now _ _ _ _ _ c.in-Some.ensures c.blocks-2.ensures c.count-count.ensures c.in_ok-check_sizes.ensures
     c.if-count.false c.count.ensures (fit_told _ c.in_ok-settle_entries.ensures.fit) c.last.ensures c.in_err-check_counters.ensures)
