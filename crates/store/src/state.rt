@@ -7,7 +7,7 @@ use tape::tape::Tape;
 
 /// What is left where a making was denied: the ends, and the denial that every later call answers.
 #[derive(Drop)]
-pub(crate) struct ShutStore<C: Card, S: Seal, T: Tape> {
+pub struct ShutStore<C: Card, S: Seal, T: Tape> {
     pub ends: Ends<C, S, T>,
     pub denial: Denial,
 }
@@ -16,7 +16,7 @@ pub(crate) struct ShutStore<C: Card, S: Seal, T: Tape> {
 /// A contract sees the store of the definitions that it is, and its seal.
 #[derive(Drop)]
 pub struct Store<C: Card, S: Seal, T: Tape> {
-    pub(crate) state: Result<OpenStore<C, S, T>, ShutStore<C, S, T>>,
+    pub state: Result<OpenStore<C, S, T>, ShutStore<C, S, T>>,
 }
 
 impl<C: Card, S: Seal, T: Tape> Model for Store<C, S, T> {
