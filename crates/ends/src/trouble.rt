@@ -1,4 +1,11 @@
 //! What can go wrong at the desk, and how a denial is told in words.
+ghost use Rattle.std.specs.Prelude.{◌≡◌};
+ghost use Rattle.denial.specs.Denials.{row_told};
+ghost use Rattle.card.specs.Faults.{card_denial};
+ghost use Rattle.seal.specs.Faults.{seal_denial};
+ghost use Rattle.tape.specs.Faults.{tape_denial};
+ghost use Rattle.ends.specs.Told.{denied_told};
+
 use card::fault::CardFault;
 use denial::{Fault, Row};
 use layout::names::Place;
@@ -16,7 +23,10 @@ pub(crate) enum Denied {
 }
 
 impl Denied {
-    fn row(&self) -> Row {
+    /// The row of the table that the end's own fault tells.
+    fn row(&self) -> Row
+        ensures { row_told result ≡ denied_told self.now }
+    {
         match self {
             Denied::Card(fault) => fault.row(),
             Denied::Seal(fault) => fault.row(),
@@ -47,18 +57,24 @@ impl fmt::Display for Denied {
 }
 
 impl From<CardFault> for Denied {
+    ghost from_gives = { λ f d. denied_told d ≡ card_denial f };
+
     fn from(fault: CardFault) -> Denied {
         Denied::Card(fault)
     }
 }
 
 impl From<SealFault> for Denied {
+    ghost from_gives = { λ f d. denied_told d ≡ seal_denial f };
+
     fn from(fault: SealFault) -> Denied {
         Denied::Seal(fault)
     }
 }
 
 impl From<TapeFault> for Denied {
+    ghost from_gives = { λ f d. denied_told d ≡ tape_denial f };
+
     fn from(fault: TapeFault) -> Denied {
         Denied::Tape(fault)
     }
