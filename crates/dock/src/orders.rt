@@ -88,8 +88,16 @@ fn length(word: &str) -> Result<usize, Wrong> {
 fn value(heap: Global, word: Option<&str>) -> Result<Vec<u8>, Wrong> {
     match given(word, Thing::Value)? {
         "-" => Ok(Vec::new(heap)),
+        // Looked at first, so that a word that is no hex takes no memory, however long it is.
+        digits if !is_hex(digits) => Err(Wrong::NotHex),
         digits => Ok(hex::decode(heap, digits)?),
     }
+}
+
+fn is_hex(word: &str) -> bool {
+    word.as_bytes()
+        .iter()
+        .all(|digit| digit.is_ascii_hexdigit())
 }
 
 fn beats(word: Option<&str>) -> Result<u32, Wrong> {

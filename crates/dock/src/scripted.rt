@@ -162,10 +162,14 @@ fn map_file(rt: &HostRuntime, part: &Part) -> Result<Vec<u8>, Trouble<'static>> 
 
 /// The line of each call.
 fn asked_by(heap: Global, lines: &[CallLine]) -> Result<Vec<&CallLine>, AllocError> {
-    let asked = lines
+    let counts = lines.iter().map(|line| line.order.calls() as usize);
+    // All its memory at once: a list that grows as it is filled asks for more than it needs.
+    let mut asked = Vec::with_capacity(heap, counts.fold(0, usize::saturating_add))?;
+    let calls = lines
         .iter()
         .flat_map(|line| repeat_n(line, line.order.calls() as usize));
-    asked.collect(heap)
+    asked.extend(calls)?;
+    Ok(asked)
 }
 
 /// The call of each line, on a card of so many places.

@@ -71,6 +71,14 @@ impl BlockVector {
 impl TagVector {
     fn read(heap: Global, key: &str, message: &str, tag: &str) -> Result<TagVector, LineFault> {
         let digits = if message == "-" { "" } else { message };
+        // Looked at first, so that a message that is no hex takes no memory, however long it is.
+        if !digits
+            .as_bytes()
+            .iter()
+            .all(|digit| digit.is_ascii_hexdigit())
+        {
+            return Err(LineFault::NotHex("message"));
+        }
         let message = match hex::decode(heap, digits) {
             Ok(message) => message,
             Err(FromHexError::OutOfMemory) => return Err(LineFault::Memory(AllocError)),
