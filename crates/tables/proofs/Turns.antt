@@ -1,8 +1,8 @@
 -- Look-ups in the waiting list and the position map, as loops make them.
-use Rattle.std.proofs.Common.{◌≡◌, ℕ, suc, ◌+◌, ◌<◌, Bool, true, false, cond, eqb, List, [], ◌∷◌, length, get_or, set, Some, None, Option, sym, refl, ap, ◌∙◌, subst, add-one, arith}
+use Rattle.std.proofs.Common.{◌≡◌, ℕ, suc, ◌+◌, ◌<◌, Bool, true, false, cond, eqb, List, [], ◌∷◌, ◌++◌, length, get_or, set, Some, None, Option, sym, refl, ap, ◌∙◌, subst, add-one, arith}
 use Rattle.std.specs.List.{position, position_from, find}
 use Rattle.std.specs.Option.{option_map}
-use Rattle.std.proofs.lemmas.List.{length-map, map-set, get_or-map}
+use Rattle.std.proofs.lemmas.List.{length-map, map-append, map-set, get_or-map}
 use Rattle.std.proofs.lemmas.Iterator.Adapters.{position_from-zero}
 use Rattle.std.proofs.lemmas.Bool.{eqb-true}
 use Rattle.layout.specs.declared.body.Body.{Body}
@@ -48,6 +48,51 @@ turn_searched i (x ∷ xs) b =
 
 pub turn_is : (xs : List Body) (b : ℕ) → position (of_block b) xs ≡ turn (waited xs) b
 turn_is xs b = position_from-zero (of_block b) xs ∙ turn_searched 0 xs b
+
+-- the first answer, else the second
+abbrev either_of : Option ℕ → Option ℕ → Option ℕ
+either_of (Some i) o = Some i
+either_of None o = o
+
+-- a search over two pieces goes on in the second
+turn_joined : (i : ℕ) (xs ys : List (ℕ × Bytes)) (b : ℕ) → turn_from i (xs ++ ys) b ≡ either_of (turn_from i xs b) (turn_from (i + length xs) ys b)
+turn_joined i [] ys b = let e : i ≡ i + 0 = omega arith in ap (λ (n : ℕ). turn_from n ys b) e
+turn_joined i (x ∷ xs) ys b =
+    let e : suc i + length xs ≡ i + length (x ∷ xs) = omega arith in
+    let rest = turn_joined (suc i) xs ys b ∙ ap (λ (n : ℕ). either_of (turn_from (suc i) xs b) (turn_from n ys b)) e in
+    elim (eqb x.0 b) as (λ t. cond t (Some i) (turn_from (suc i) (xs ++ ys) b) ≡ either_of (cond t (Some i) (turn_from (suc i) xs b)) (turn_from (i + length (x ∷ xs)) ys b))
+    [ true ↦ refl | false ↦ rest ]
+
+-- a search that counts from further on
+turn_later : (k i : ℕ) (ws : List (ℕ × Bytes)) (b : ℕ) → turn_from (k + i) ws b ≡ option_map (λ j. k + j) (turn_from i ws b)
+turn_later k i [] b = refl
+turn_later k i (w ∷ ws) b =
+    let e : suc (k + i) ≡ k + suc i = omega arith in
+    let rest = ap (λ (n : ℕ). turn_from n ws b) e ∙ turn_later k (suc i) ws b in
+    elim (eqb w.0 b) as (λ t. cond t (Some (k + i)) (turn_from (suc (k + i)) ws b) ≡ option_map (λ j. k + j) (cond t (Some i) (turn_from (suc i) ws b)))
+    [ true ↦ refl | false ↦ rest ]
+
+-- what two slices tell of the slots that they are
+module _ (front back slots : List Body) (b : ℕ) (are : front ++ back ≡ slots) where
+  both : turn (waited slots) b ≡ either_of (turn (waited front) b) (option_map (λ j. length front + j) (turn (waited back) b))
+  both =
+      let n = length-map front entry_of in
+      ap (λ (z : List Body). turn (waited z) b) (sym are)
+      ∙ (ap (λ (z : List (ℕ × Bytes)). turn z b) (map-append entry_of front back)
+      ∙ (turn_joined 0 (waited front) (waited back) b
+      ∙ (ap (λ (k : ℕ). either_of (turn (waited front) b) (turn_from k (waited back) b)) (let e : 0 + length (waited front) ≡ length front + 0 = omega arith in e)
+      ∙ ap (either_of (turn (waited front) b)) (turn_later (length front) 0 (waited back) b))))
+
+  pub turn_in_front : (i : ℕ) → Some i ≡ turn (waited front) b → Some i ≡ turn (waited slots) b
+  turn_in_front i h = ap (λ o. either_of o (option_map (λ j. length front + j) (turn (waited back) b))) h ∙ sym both
+
+  pub turn_in_back : (i : ℕ) → None ≡ turn (waited front) b → Some i ≡ turn (waited back) b → Some (length front + i) ≡ turn (waited slots) b
+  turn_in_back i h k =
+      ap (option_map (λ j. length front + j)) k ∙ (ap (λ o. either_of o (option_map (λ j. length front + j) (turn (waited back) b))) h ∙ sym both)
+
+  pub turn_nowhere : None ≡ turn (waited front) b → None ≡ turn (waited back) b → None ≡ turn (waited slots) b
+  turn_nowhere h k =
+      ap (option_map (λ j. length front + j)) k ∙ (ap (λ o. either_of o (option_map (λ j. length front + j) (turn (waited back) b))) h ∙ sym both)
 
 -- and its value
 pub awaited_is : (xs : List Body) (b : ℕ) → option_map (λ x. x.value) (find (of_block b) xs) ≡ awaited (waited xs) b

@@ -1,7 +1,7 @@
 ghost use Rattle.std.specs.Prelude.{◌≡◌, ℕ, [], length, drop, is_ok, IfOk};
 ghost use Rattle.std.specs.Option.{option_map};
 ghost use Rattle.machine.specs.Machine.{awaited, altered};
-ghost use Rattle.tables.specs.Views.{entry_of, turn, first_in, join_of};
+ghost use Rattle.tables.specs.Views.{entry_of, waited, turn, first_in, join_of};
 
 use layout::body::Body;
 use layout::names::Block;
@@ -35,14 +35,21 @@ impl WaitingList {
     fn find(&self, block: Block) -> Option<usize>
         ensures { result ≡ turn self.now block.0 }
     {
-        self.slots.iter().position(|slot| slot.block == block)
+        // Slice by slice: the deque's own iterator asks at each slot which slice it is in.
+        let (front, back) = self.slots.as_slices();
+        if let Some(i) = turn_in(front, block) {
+            return Some(i);
+        }
+        let i = turn_in(back, block)?;
+        Some(front.len() + i)
     }
 
     /// The waiting value of a block.
     pub fn value_of(&self, block: Block) -> Option<[u8; 48]>
         ensures { result ≡ awaited self.now block.0 }
     {
-        let slot = self.slots.iter().find(|slot| slot.block == block)?;
+        let i = self.find(block)?;
+        let slot = &self.slots[i];
         Some(slot.value)
     }
 
@@ -82,4 +89,11 @@ impl WaitingList {
     {
         self.slots.pop_front()
     }
+}
+
+/// The turn of a block among some slots.
+fn turn_in(slots: &[Body], block: Block) -> Option<usize>
+    ensures { result ≡ turn (waited slots.now) block.0 }
+{
+    slots.iter().position(|slot| slot.block == block)
 }
