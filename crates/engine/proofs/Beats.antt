@@ -14,7 +14,7 @@ nothing_first [] e = refl
 nothing_first (w ∷ ws) e = let z : ◌≡◌ {A = ℕ} 0 1 = cc in absurd (omega arith)
 
 -- at a vacant place a block of the map settles, and one beyond it changes nothing
-settles : (places after : List (Option ℕ)) (r : Result (Unit {0}) Unsettled) (b p : ℕ) → occupant places p ≡ None → (r, after) ≡ settle_of places b p
+pub settles : (places after : List (Option ℕ)) (r : Result (Unit {0}) Unsettled) (b p : ℕ) → occupant places p ≡ None → (r, after) ≡ settle_of places b p
     → after ≡ set places b (Some p)
 settles places after r b p v e =
     let inside = λ (h : b < length places). cond-true _ _ _ (lt-ltb b (length places) h) ∙ ap (settle_vacant places b p) v in

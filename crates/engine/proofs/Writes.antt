@@ -8,7 +8,7 @@ use Rattle.machine.specs.Machine.{Machine, awaited, altered, with_waiting, writt
 use Rattle.tables.specs.Views.{join_of}
 
 -- the value that was filled is of at most 48 bytes
-filled_some : (value v : Bytes) → Some v ≡ filled_of value → (length value ≤ 48) × (v ≡ filled value)
+pub filled_some : (value v : Bytes) → Some v ≡ filled_of value → (length value ≤ 48) × (v ≡ filled value)
 filled_some value v e = go (leb (length value) 48) refl e
   where
     go : (t : Bool) → leb (length value) 48 ≡ t → Some v ≡ cond t (Some (filled value)) None → (length value ≤ 48) × (v ≡ filled value)

@@ -18,7 +18,7 @@ put_last a k xs zs ys h l =
     put_next a k xs zs ys h ∙ (ap (λ (u : Bytes). xs ++ (ys ++ u)) (drop_all k zs l) ∙ ap (λ (u : Bytes). xs ++ u) (append-nil ys))
 
 -- the first four bytes, as they are read one by one
-first_four : (bs : Bytes) → 4 ≤ length bs → take 4 bs ≡ get_or bs 0 0 ∷ get_or bs 1 0 ∷ get_or bs 2 0 ∷ get_or bs 3 0 ∷ []
+pub first_four : (bs : Bytes) → 4 ≤ length bs → take 4 bs ≡ get_or bs 0 0 ∷ get_or bs 1 0 ∷ get_or bs 2 0 ∷ get_or bs 3 0 ∷ []
 first_four [] h = absurd (omega arith)
 first_four (a ∷ []) h = absurd (omega arith)
 first_four (a ∷ b ∷ []) h = absurd (omega arith)

@@ -18,7 +18,7 @@ use Rattle.runs.specs.Performed.{called_told}
 use Rattle.runs.specs.declared.calls.Granted.{Granted}
 
 -- a buffer of the caller's, filled by a call that began with it
-into_buffer : {Z : Type 0} (d : List ℕ → Called) (a : Answer) (s : Store) (v : Vec ℕ Z) (xs given last : List ℕ)
+pub into_buffer : {Z : Type 0} (d : List ℕ → Called) (a : Answer) (s : Store) (v : Vec ℕ Z) (xs given last : List ℕ)
     → given ≡ vec_items v → vec_items v ≡ xs → length last ≡ vec_len v
     → record { answer = a; buffer = last; store = s } ≡ d given
     → record { answer = a; buffer = vec_items (with_items v last); store = s } ≡ d xs
