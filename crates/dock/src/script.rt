@@ -3,12 +3,21 @@ use crate::orders::{CallOrder, MakingOrder, Order, order_of};
 use crate::trouble::Trouble;
 use crate::wrong::Wrong;
 use std::alloc::Global;
+use std::iter::{RepeatN, repeat_n};
 
 /// A line's calls, with the line's number.
 #[derive(Drop)]
 pub(crate) struct CallLine {
     pub line: usize,
     pub order: CallOrder,
+}
+
+impl CallLine {
+    /// The line, as often as it makes a call.
+    // No list of them is kept: it would take memory for each call of a long script.
+    pub(crate) fn asked(&self) -> RepeatN<&CallLine> {
+        repeat_n(self, self.order.calls() as usize)
+    }
 }
 
 /// A making and the calls up to the next one.

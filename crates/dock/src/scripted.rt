@@ -17,7 +17,6 @@ use seal::seal::Seal;
 use seal::street::StreetSeal;
 use std::alloc::{AllocError, Global};
 use std::fs;
-use std::iter::repeat_n;
 use store::state::Store;
 use tape::keyed::KeyedTape;
 use tape::tape::Tape;
@@ -128,9 +127,9 @@ fn run_part<'a, C: Card + Drop, S: Seal + Drop, T: Tape + Drop>(
     part: &Part,
 ) -> Result<Ends<C, S, T>, Trouble<'a>> {
     let heap = rt.alloc();
-    let asked = asked_by(heap, part.calls.as_slice())?;
+    let lines = part.calls.as_slice();
     // Calls apart from their lines, since `run` takes the calls alone.
-    let calls = calls_of(heap, asked.as_slice(), ends.card.count())?;
+    let calls = calls_of(heap, lines, ends.card.count())?;
     let file = map_file(rt, part)?;
     let making = match &part.making {
         MakingOrder::Format(blocks) => Making::Format(*blocks),
@@ -145,10 +144,11 @@ fn run_part<'a, C: Card + Drop, S: Seal + Drop, T: Tape + Drop>(
     let verb = part.making.verb();
     let made = Made(store.answer());
     println!(rt; "{verb}: {made}")?;
-    for (line, answer) in asked.iter().zip(transcript?.notes.answers.iter()) {
+    let asked = lines.iter().flat_map(|line| line.asked());
+    for (line, answer) in asked.zip(transcript?.notes.answers.iter()) {
         tell(rt, line, answer)?;
     }
-    go_on(rt, &mut store, asked.as_slice(), calls)?;
+    go_on(rt, &mut store, lines, calls)?;
     Ok(store.into_ends())
 }
 
@@ -160,26 +160,18 @@ fn map_file(rt: &HostRuntime, part: &Part) -> Result<Vec<u8>, Trouble<'static>> 
     fs::read(rt, path.as_str()).map_err(|error| Trouble::LineRead(part.line, error.kind()))
 }
 
-/// The line of each call.
-fn asked_by(heap: Global, lines: &[CallLine]) -> Result<Vec<&CallLine>, AllocError> {
-    let counts = lines.iter().map(|line| line.order.calls() as usize);
-    // All its memory at once: a list that grows as it is filled asks for more than it needs.
-    let mut asked = Vec::with_capacity(heap, counts.fold(0, usize::saturating_add))?;
-    let calls = lines
-        .iter()
-        .flat_map(|line| repeat_n(line, line.order.calls() as usize));
-    asked.extend(calls)?;
-    Ok(asked)
-}
-
-/// The call of each line, on a card of so many places.
+/// The calls of the lines, on a card of so many places.
 fn calls_of<'a>(
     heap: Global,
-    asked: &[&'a CallLine],
+    lines: &'a [CallLine],
     places: u32,
 ) -> Result<Vec<Call<'a>>, AllocError> {
-    let calls = asked.iter().map(|line| call_of(&line.order, places));
-    calls.collect(heap)
+    let counts = lines.iter().map(|line| line.order.calls() as usize);
+    // All its memory at once: a list that grows as it is filled asks for more than it needs.
+    let mut calls = Vec::with_capacity(heap, counts.fold(0, usize::saturating_add))?;
+    let asked = lines.iter().flat_map(|line| line.asked());
+    calls.extend(asked.map(|line| call_of(&line.order, places)))?;
+    Ok(calls)
 }
 
 fn call_of<'a>(order: &'a CallOrder, places: u32) -> Call<'a> {
@@ -197,10 +189,11 @@ fn call_of<'a>(order: &'a CallOrder, places: u32) -> Call<'a> {
 fn go_on<C: Card, S: Seal, T: Tape>(
     rt: &HostRuntime,
     store: &mut Store<C, S, T>,
-    asked: &[&CallLine],
+    lines: &[CallLine],
     calls: &[Call<'_>],
 ) -> Result<(), Trouble<'static>> {
-    let later = asked.iter().zip(calls.iter()).skip(AT_ONCE);
+    let asked = lines.iter().flat_map(|line| line.asked());
+    let later = asked.zip(calls.iter()).skip(AT_ONCE);
     for ((line, call), made) in later.zip(1usize..) {
         let answer = perform(rt.alloc(), store, call)?;
         tell(rt, line, &answer)?;

@@ -66,7 +66,8 @@ fn follow<C: Card, S: Seal, T: Tape>(
 {
     let mut notes = Notes {
         begun: note_beginning(heap, store)?,
-        answers: Vec::new(heap),
+        // All its memory at once: a list that grows as it is filled asks for more than it needs.
+        answers: Vec::with_capacity(heap, calls.len())?,
         faces: Vec::new(heap),
         places: Vec::new(heap),
         sealings: note_making(heap, store, making, count)?,
